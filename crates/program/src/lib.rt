@@ -1,0 +1,4 @@
+pub mod action;
+pub mod kind;
+pub mod parts;
+pub mod print;
