@@ -1,0 +1,42 @@
+use denote.Ref.{now}
+use Rattle.std.specs.Of.Vec.{vec-items}
+use Rattle.text.specs.declared.node.NodeKind.the-variants.{Quoted, Integer, Bracket}
+use Rattle.text.proofs.Forward.{moved}
+use Rattle.text.proofs.Filled.{added-on, entered-on, closed-on}
+use Rattle.text.proofs.reading.read_token.Needs as need
+
+pub returns-in-Quoted : need.returns-in-Quoted
+returns-in-Quoted c =
+    record {
+      same = c .next .ensures .same;
+      moved = added-on _ _ _ (moved (c .args .reader .now .at) (c .next .last .self .at) (c .is-full-full .result) (now (c .args .reader .now .text)) (c .in-Continue-at .field-0) (c .in-Continue-at .ensures tt .read))
+          (vec-items (c .args .table .now .rows)) (vec-items (c .args .table .now .pending)) (c .in-Quoted .at) (Quoted (c .in-Quoted .inside)) (c .add .result)
+          (vec-items (c .add .last .self .rows)) (vec-items (c .add .last .self .pending)) (c .add .ensures);
+    }
+
+pub returns-in-Integer : need.returns-in-Integer
+returns-in-Integer c =
+    record {
+      same = c .next .ensures .same;
+      moved = added-on _ _ _ (moved (c .args .reader .now .at) (c .next .last .self .at) (c .is-full-full .result) (now (c .args .reader .now .text)) (c .in-Continue-at .field-0) (c .in-Continue-at .ensures tt .read))
+          (vec-items (c .args .table .now .rows)) (vec-items (c .args .table .now .pending)) (c .in-Integer .at) (Integer (c .in-Integer .value)) (c .add-in-Integer .result)
+          (vec-items (c .add-in-Integer .last .self .rows)) (vec-items (c .add-in-Integer .last .self .pending)) (c .add-in-Integer .ensures);
+    }
+
+pub returns-in-Open : need.returns-in-Open
+returns-in-Open c =
+    record {
+      same = c .next .ensures .same;
+      moved = entered-on _ _ _ (moved (c .args .reader .now .at) (c .next .last .self .at) (c .is-full-full .result) (now (c .args .reader .now .text)) (c .in-Continue-at .field-0) (c .in-Continue-at .ensures tt .read))
+          (vec-items (c .args .table .now .rows)) (vec-items (c .args .table .now .pending)) (c .in-Open .at) (Bracket (c .in-Open .symbol)) (c .enter .result)
+          (vec-items (c .enter .last .self .rows)) (vec-items (c .enter .last .self .pending)) (c .enter .ensures);
+    }
+
+pub returns-in-Close : need.returns-in-Close
+returns-in-Close c =
+    record {
+      same = c .next .ensures .same;
+      moved = closed-on _ _ _ (moved (c .args .reader .now .at) (c .next .last .self .at) (c .is-full-full .result) (now (c .args .reader .now .text)) (c .in-Continue-at .field-0) (c .in-Continue-at .ensures tt .read))
+          (vec-items (c .args .table .now .rows)) (vec-items (c .args .table .now .pending)) (record { few = c .args .table .now .few; onward = c .args .table .now .onward; within = c .args .table .now .within; inside = c .args .table .now .inside }) (c .in-Close .at) (c .close .result)
+          (vec-items (c .close .last .self .rows)) (vec-items (c .close .last .self .pending)) (c .close .ensures);
+    }
