@@ -12,7 +12,7 @@ use Rattle.program.specs.declared.kind.Kind.the-variants.{Tuple, Crypt, Apply}
 use Rattle.program.specs.declared.parts.Parts.{Parts}
 use Rattle.program.specs.Parts.{parts-of}
 use Rattle.program.specs.Actions.{head-of, act-of, built}
-use Rattle.syntax.specs.Shapes.{formed, trees, two-parts}
+use Rattle.terms.specs.Shapes.{formed, trees, two-parts}
 
 -- a list of two numbers
 two : (xs : List ℕ) → length xs ≡ 2 → getD xs 0 0 ∷ getD xs 1 0 ∷ [] ≡ xs

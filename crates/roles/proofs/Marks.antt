@@ -22,20 +22,20 @@ use Rattle.model.specs.Roles as model-roles
 use Rattle.model.specs.Roles.{knows, can, can-all}
 use Rattle.roles.specs.declared.party.Party.{Party}
 use Rattle.roles.specs.declared.state.RoleState.{RoleState}
-use Rattle.syntax.specs.declared.table.TermTable.{TermTable}
+use Rattle.terms.specs.declared.table.TermTable.{TermTable}
 use Rattle.program.specs.declared.kind.Kind.{Kind}
 use Rattle.program.specs.declared.parts.Parts.{Parts}
-use Rattle.syntax.specs.declared.term.TermRow.{TermRow}
-use Rattle.syntax.specs.declared.term.TermRow.the-variants.{Name, Compound}
+use Rattle.terms.specs.declared.term.TermRow.{TermRow}
+use Rattle.terms.specs.declared.term.TermRow.the-variants.{Name, Compound}
 use Rattle.roles.specs.declared.state.Entry.{Entry}
-use Rattle.syntax.specs.Shapes.{trees, All-below}
+use Rattle.terms.specs.Shapes.{trees, All-below}
 use Rattle.program.specs.Actions.{head-of}
 use Rattle.program.specs.Parts.{parts-of}
-use Rattle.syntax.specs.Rows.{Stands}
+use Rattle.terms.specs.Rows.{Stands}
 use Rattle.roles.specs.Parties.{party-of}
 use Rattle.roles.specs.Filled.{find-entry}
 use Rattle.roles.specs.States.{known-of, as-model}
-use Rattle.syntax.specs.Terms.{tree-in, size}
+use Rattle.terms.specs.Terms.{tree-in, size}
 use Rattle.roles.specs.Composed.{Knows, all-in, row-composable, can-be, can-all-be}
 use Rattle.roles.proofs.Composing.{model-finds}
 

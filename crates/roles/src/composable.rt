@@ -10,8 +10,8 @@ use crate::fault::Fault;
 use crate::fault::NoMemoryFault;
 use crate::party::Party;
 use crate::state::RoleState;
-use syntax::table::TermTable;
-use syntax::term::TermRow;
+use terms::table::TermTable;
+use terms::term::TermRow;
 
 impl RoleState {
     pub(crate) fn composable(&self, table: &TermTable, party: &Party) -> Result<Vec<bool>, Fault>

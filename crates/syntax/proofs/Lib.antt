@@ -1,4 +1,1 @@
-pub mod Numbered
-pub mod Scans
-pub mod Tables
-pub mod Interning
+pub mod Ends

@@ -1,4 +1,1 @@
-pub mod Shapes
-pub mod Rows
-pub mod Interned
-pub mod Terms
+pub mod Refusals

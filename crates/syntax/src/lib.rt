@@ -1,3 +1,7 @@
+// The shape of a specification: from a table of nodes to declarations, lines and terms.
 pub mod fault;
-pub mod table;
-pub mod term;
+mod shape;
+mod shape_term;
+pub mod source;
+pub mod spec;
+pub mod symbol;

@@ -1,0 +1,5 @@
+pub mod Shapes
+pub mod Rows
+pub mod Refusals
+pub mod Interned
+pub mod Terms

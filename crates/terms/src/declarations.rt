@@ -1,0 +1,97 @@
+// What is declared: names with their types, functions, starting knowledge; and the terms, by number.
+ghost use Prim.Native.Nat.{_≤_};
+ghost use Rattle.std.specs.Of.Vec.{vec-len};
+use syntax::symbol::FunctionClass;
+use crate::table::TermTable;
+use std::alloc::Global;
+use text::part::Part;
+
+#[derive(Clone, Copy, PartialEq, Eq)]
+pub enum Type {
+    Number,
+    Principal,
+}
+
+// What a name stands for.
+#[derive(Clone, Copy)]
+pub enum Meaning {
+    // a shared name is never made
+    Value { kind: Type, shared: bool },
+    // a function, by its number
+    Function(u8),
+}
+
+#[derive(Clone, Copy)]
+pub struct Declared {
+    pub name: Part,
+    pub meaning: Meaning,
+}
+
+// A function's parameters are those from `first` to `end` of all parameters.
+#[derive(Clone, Copy)]
+pub struct Function {
+    pub name: Part,
+    pub class: FunctionClass,
+    pub result: Type,
+    pub first: usize,
+    pub end: usize,
+}
+
+// A term that a party starts from: the one of that name, or everybody.
+#[derive(Clone, Copy)]
+pub struct Start {
+    pub knower: Option<u8>,
+    pub term: u16,
+}
+
+// A function that a party may apply though it is secret.
+#[derive(Clone, Copy)]
+pub struct Right {
+    pub knower: Option<u8>,
+    pub function: u8,
+}
+
+#[derive(Drop)]
+pub struct Declarations {
+    pub names: Vec<Declared>,
+    pub functions: Vec<Function>,
+    pub parameters: Vec<Type>,
+    pub starts: Vec<Start>,
+    pub rights: Vec<Right>,
+    pub terms: TermTable,
+    ghost few: { vec-len names ≤ 128 },
+    ghost fewer: { vec-len functions ≤ vec-len names },
+}
+
+impl Declarations {
+    pub fn new(heap: Global) -> Declarations {
+        Declarations {
+            names: Vec::new(heap),
+            functions: Vec::new(heap),
+            parameters: Vec::new(heap),
+            starts: Vec::new(heap),
+            rights: Vec::new(heap),
+            terms: TermTable::new(heap),
+        }
+    }
+
+    // The number of a name.
+    pub fn find(&self, text: &[u8], name: Part) -> Option<u8> {
+        let wanted = name.of(text);
+        for number in 0..self.names.len() {
+            if self.names[number].name.of(text) == wanted {
+                return Some(number as u8);
+            }
+        }
+        None
+    }
+
+    // What a name stands for.
+    pub fn meaning(&self, text: &[u8], name: Part) -> Option<Meaning> {
+        let number = self.find(text, name)? as usize;
+        if number >= self.names.len() {
+            return None;
+        }
+        Some(self.names[number].meaning)
+    }
+}

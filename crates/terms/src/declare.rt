@@ -1,0 +1,192 @@
+// Reading the declarations, in their order.
+ghost use mathlib.Core.Path.{_≡_};
+ghost use Prim.Native.Nat.{_+_, _<_};
+ghost use Rattle.std.specs.Of.Vec.{vec-len};
+ghost use Rattle.std.specs.Vec.{made};
+use crate::declarations::Declarations;
+use crate::declarations::Declared;
+use crate::declarations::Function;
+use crate::declarations::Meaning;
+use crate::declarations::Right;
+use crate::declarations::Start;
+use crate::declarations::Type;
+use crate::declarations::TypePartialEq;
+use crate::fault::DeclarationFault;
+use crate::fault::RefusedDeclarationFault;
+use crate::fault::TermDeclarationFault;
+use crate::limits::Limits;
+use crate::limits::MOST_NAMES;
+use syntax::spec::Declaration;
+use syntax::spec::Form;
+use syntax::spec::Name;
+use syntax::spec::Spec;
+use syntax::symbol::FunctionClass;
+use std::alloc::Global;
+
+impl Declarations {
+    pub fn read(
+        heap: Global,
+        text: &[u8],
+        spec: &Spec,
+        limits: Limits,
+    ) -> Result<Declarations, DeclarationFault> {
+        let mut declarations = Declarations::new(heap);
+        for declaration in spec.declarations.as_slice() {
+            declarations.add(text, spec, *declaration, limits)?;
+        }
+        Ok(declarations)
+    }
+
+    fn add(
+        &mut self,
+        text: &[u8],
+        spec: &Spec,
+        declaration: Declaration,
+        limits: Limits,
+    ) -> Result<(), DeclarationFault> {
+        match declaration {
+            Declaration::Value { name, kind, shared } => {
+                self.unused(text, name, limits)?;
+                let kind = type_of(text, kind)?;
+                self.name(name, Meaning::Value { kind, shared })
+            }
+            Declaration::Function {
+                name,
+                class,
+                result,
+                first,
+                end,
+            } => {
+                self.unused(text, name, limits)?;
+                let result = type_of(text, result)?;
+                let start = self.parameters.len();
+                read_parameters(text, spec, first, end, &mut self.parameters)?;
+                self.function(name, class, result, start)
+            }
+            Declaration::Knows { knower, term } => {
+                let knower = self.principal(text, knower)?;
+                self.known(text, spec, Some(knower), term, limits)
+            }
+            Declaration::EverybodyKnows { term } => self.known(text, spec, None, term, limits),
+        }
+    }
+
+    // A name is declared once.
+    fn unused(&self, text: &[u8], name: Name, limits: Limits) -> Result<(), DeclarationFault>
+        ensures { λ r. ⌜ made r (λ _. vec-len (now (self .entry) .names) < 128) ⌝ }
+    {
+        let at = name.at;
+        if self.find(text, name.part).is_some() {
+            return Err(DeclarationFault::Redeclared { at });
+        }
+        if self.names.len() >= limits.names.min(MOST_NAMES) {
+            return Err(DeclarationFault::Limit { at });
+        }
+        Ok(())
+    }
+
+    fn name(&mut self, name: Name, meaning: Meaning) -> Result<(), DeclarationFault>
+        requires { ⌜ vec-len (now self .names) < 128 ⌝ }
+        ensures longer { λ r. ⌜ made r (λ _. vec-len (now (self .exit) .names) ≡ vec-len (now (self .entry) .names) + 1) ⌝ }
+        ensures same { λ _. ⌜ now (self .exit) .functions ≡ now (self .entry) .functions ⌝ }
+    {
+        self.names
+            .push(Declared {
+                name: name.part,
+                meaning,
+            })?;
+        Ok(())
+    }
+
+    // A function, whose parameters were read from `first` on.
+    fn function(
+        &mut self,
+        name: Name,
+        class: FunctionClass,
+        result: Type,
+        first: usize,
+    ) -> Result<(), DeclarationFault>
+        requires { ⌜ vec-len (now self .names) < 128 ⌝ }
+    {
+        let number = self.functions.len() as u8;
+        self.name(name, Meaning::Function(number))?;
+        self.functions
+            .push(Function {
+                name: name.part,
+                class,
+                result,
+                first,
+                end: self.parameters.len(),
+            })?;
+        Ok(())
+    }
+
+    // The number of a party.
+    pub fn principal(&self, text: &[u8], name: Name) -> Result<u8, DeclarationFault> {
+        let at = name.at;
+        let Some(number) = self.find(text, name.part) else {
+            return Err(DeclarationFault::Undeclared { at });
+        };
+        match self.meaning(text, name.part) {
+            Some(Meaning::Value { kind, shared: _ }) if kind == Type::Principal => Ok(number),
+            _ => Err(DeclarationFault::WrongType { at }),
+        }
+    }
+
+    // Starting knowledge: a function's name alone is the right to apply it, anything else a term.
+    fn known(
+        &mut self,
+        text: &[u8],
+        spec: &Spec,
+        knower: Option<u8>,
+        term: usize,
+        limits: Limits,
+    ) -> Result<(), DeclarationFault> {
+        if let Some(function) = self.right(text, spec, term) {
+            self.rights.push(Right { knower, function })?;
+            return Ok(());
+        }
+        let term = self.term(text, spec, term, limits)?;
+        self.starts.push(Start { knower, term })?;
+        Ok(())
+    }
+
+    fn right(&self, text: &[u8], spec: &Spec, term: usize) -> Option<u8> {
+        if term >= spec.terms.len() {
+            return None;
+        }
+        let Form::Name(name) = spec.terms[term].form else {
+            return None;
+        };
+        match self.meaning(text, name)? {
+            Meaning::Function(function) => Some(function),
+            Meaning::Value { kind: _, shared: _ } => None,
+        }
+    }
+}
+
+// There are two types, by their names.
+fn type_of(text: &[u8], name: Name) -> Result<Type, DeclarationFault> {
+    match name.part.of(text) {
+        b"number" => Ok(Type::Number),
+        b"principal" => Ok(Type::Principal),
+        _ => Err(DeclarationFault::WrongType { at: name.at }),
+    }
+}
+
+// The types of a function's parameters.
+fn read_parameters(
+    text: &[u8],
+    spec: &Spec,
+    first: usize,
+    end: usize,
+    parameters: &mut Vec<Type>,
+) -> Result<(), DeclarationFault> {
+    for number in first..end {
+        if number < spec.parameters.len() {
+            let kind = type_of(text, spec.parameters[number])?;
+            parameters.push(kind)?;
+        }
+    }
+    Ok(())
+}

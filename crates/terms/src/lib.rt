@@ -1,0 +1,9 @@
+// Declarations, types and numbered terms.
+pub mod declarations;
+mod declare;
+pub mod fault;
+pub mod limits;
+mod numbering;
+pub mod table;
+pub mod term;
+mod typing;

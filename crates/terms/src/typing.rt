@@ -1,0 +1,115 @@
+// The types of a term: a node before its parts.
+ghost use Prim.Native.Nat.{_<_, _≤_};
+ghost use Rattle.std.specs.Vec.{made};
+use crate::declarations::Declarations;
+use crate::declarations::Function;
+use crate::declarations::Meaning;
+use crate::declarations::Type;
+use crate::declarations::TypePartialEq;
+use crate::fault::TermFault;
+use syntax::spec::Form;
+use syntax::spec::Name;
+use syntax::spec::TermNode;
+
+impl Declarations {
+    // Whether a term has the type that is wanted. Answers the node behind the term.
+    pub(crate) fn check(
+        &self,
+        text: &[u8],
+        terms: &[TermNode],
+        term: usize,
+        wanted: Type,
+    ) -> Result<usize, TermFault>
+        ensures { λ r. ⌜ made r (λ next. term < next) ⌝ }
+    {
+        if term >= terms.len() {
+            return Err(TermFault::WrongType { at: 0 });
+        }
+        let TermNode { at, form } = terms[term];
+        let next = term + 1;
+        match form {
+            Form::Name(part) => {
+                self.check_name(text, Name { at, part }, wanted)?;
+                Ok(next)
+            }
+            Form::Tuple { parts } => {
+                fits(at, Type::Number, wanted)?;
+                self.check_parts(text, terms, next, parts, None)
+            }
+            Form::Crypt => {
+                fits(at, Type::Number, wanted)?;
+                self.check_parts(text, terms, next, 2, None)
+            }
+            Form::Apply { function, parts } => {
+                let function = self.applied(text, function)?;
+                if function.end.saturating_sub(function.first) != parts as usize {
+                    return Err(TermFault::WrongType { at });
+                }
+                fits(at, function.result, wanted)?;
+                self.check_parts(text, terms, next, parts, Some(function))
+            }
+        }
+    }
+
+    // The parts of a term. A function says what is wanted of its arguments.
+    fn check_parts(
+        &self,
+        text: &[u8],
+        terms: &[TermNode],
+        first: usize,
+        count: u8,
+        function: Option<Function>,
+    ) -> Result<usize, TermFault>
+        ensures { λ r. ⌜ made r (λ next. first ≤ next) ⌝ }
+    {
+        let mut next = first;
+        for number in 0..count {
+            let wanted = self.wanted(function, number);
+            next = self.check(text, terms, next, wanted)?;
+        }
+        Ok(next)
+    }
+
+    fn wanted(&self, function: Option<Function>, number: u8) -> Type {
+        let Some(function) = function else {
+            return Type::Number;
+        };
+        let at = function.first.saturating_add(number as usize);
+        if at >= self.parameters.len() {
+            return Type::Number;
+        }
+        self.parameters[at]
+    }
+
+    fn check_name(&self, text: &[u8], name: Name, wanted: Type) -> Result<(), TermFault> {
+        let at = name.at;
+        match self.meaning(text, name.part) {
+            None => Err(TermFault::Undeclared { at }),
+            Some(Meaning::Function(_)) => Err(TermFault::WrongType { at }),
+            Some(Meaning::Value { kind, shared: _ }) => fits(at, kind, wanted),
+        }
+    }
+
+    // The function of an application.
+    fn applied(&self, text: &[u8], name: Name) -> Result<Function, TermFault> {
+        let at = name.at;
+        let Some(meaning) = self.meaning(text, name.part) else {
+            return Err(TermFault::Undeclared { at });
+        };
+        let Meaning::Function(number) = meaning else {
+            return Err(TermFault::WrongType { at });
+        };
+        if number as usize >= self.functions.len() {
+            return Err(TermFault::WrongType { at });
+        }
+        Ok(self.functions[number as usize])
+    }
+}
+
+// A principal may stand where a number is wanted; otherwise types are equal.
+fn fits(at: usize, found: Type, wanted: Type) -> Result<(), TermFault> {
+    if wanted == Type::Principal && found != Type::Principal {
+        return Err(TermFault::WrongType { at });
+    }
+    Ok(())
+}
