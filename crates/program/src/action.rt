@@ -30,7 +30,7 @@ pub enum Action {
 // The lines are numbered from 1, in their order; line 0 is the start.
 #[derive(Clone, Copy)]
 pub struct Row {
-    pub line: u8,
+    pub line: usize,
     pub action: Action,
 }
 

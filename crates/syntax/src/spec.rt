@@ -1,6 +1,6 @@
 // A specification as it stands in the tree. Names are parts of the text, with their places.
-use std::alloc::Global;
 use crate::symbol::FunctionClass;
+use std::alloc::Global;
 use text::part::Part;
 
 // A quoted name: the place of its quote, and the bytes between the quotes.
@@ -72,6 +72,23 @@ impl Spec {
             parameters: Vec::new(heap),
             lines: Vec::new(heap),
             terms: Vec::new(heap),
+        }
+    }
+
+    // The place of a term.
+    pub fn place(&self, term: usize) -> usize {
+        if term >= self.terms.len() {
+            return 0;
+        }
+        self.terms[term].at
+    }
+}
+
+impl Label {
+    pub fn place(self) -> usize {
+        match self {
+            Label::Number { at, value: _ } => at,
+            Label::Name(name) => name.at,
         }
     }
 }

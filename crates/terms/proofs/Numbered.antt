@@ -63,7 +63,7 @@ pub weaker : (k n : ℕ) (ks : List ℕ) → k ≤ n → All-below k ks → All-
 weaker k n [] l b = tt
 weaker k n (x ∷ ks) l b = (omega (arith, b .0), weaker k n ks l (b .1))
 
-below-push : (n : ℕ) (ks : List ℕ) (x : ℕ) → All-below n ks → x < n → All-below n (ks ++ x ∷ [])
+pub below-push : (n : ℕ) (ks : List ℕ) (x : ℕ) → All-below n ks → x < n → All-below n (ks ++ x ∷ [])
 below-push n [] x b h = (h, tt)
 below-push n (k ∷ ks) x b h = (b .0, below-push n ks x (b .1) h)
 

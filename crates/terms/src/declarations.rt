@@ -2,8 +2,10 @@
 ghost use Prim.Native.Nat.{_≤_};
 ghost use Rattle.std.specs.Of.Vec.{vec-len};
 use syntax::symbol::FunctionClass;
+use crate::fault::TermFault;
 use crate::table::TermTable;
 use std::alloc::Global;
+use syntax::spec::Name;
 use text::part::Part;
 
 #[derive(Clone, Copy, PartialEq, Eq)]
@@ -93,5 +95,17 @@ impl Declarations {
             return None;
         }
         Some(self.names[number].meaning)
+    }
+
+    // The number of a party.
+    pub fn principal(&self, text: &[u8], name: Name) -> Result<u8, TermFault> {
+        let at = name.at;
+        let Some(number) = self.find(text, name.part) else {
+            return Err(TermFault::Undeclared { at });
+        };
+        match self.meaning(text, name.part) {
+            Some(Meaning::Value { kind, shared: _ }) if kind == Type::Principal => Ok(number),
+            _ => Err(TermFault::WrongType { at }),
+        }
     }
 }

@@ -121,18 +121,6 @@ impl Declarations {
         Ok(())
     }
 
-    // The number of a party.
-    pub fn principal(&self, text: &[u8], name: Name) -> Result<u8, DeclarationFault> {
-        let at = name.at;
-        let Some(number) = self.find(text, name.part) else {
-            return Err(DeclarationFault::Undeclared { at });
-        };
-        match self.meaning(text, name.part) {
-            Some(Meaning::Value { kind, shared: _ }) if kind == Type::Principal => Ok(number),
-            _ => Err(DeclarationFault::WrongType { at }),
-        }
-    }
-
     // Starting knowledge: a function's name alone is the right to apply it, anything else a term.
     fn known(
         &mut self,

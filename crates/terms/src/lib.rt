@@ -4,6 +4,7 @@ mod declare;
 pub mod fault;
 pub mod limits;
 mod numbering;
+mod starting;
 pub mod table;
 pub mod term;
 mod typing;

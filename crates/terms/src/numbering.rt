@@ -5,7 +5,7 @@ ghost use lib.ListN.{length};
 ghost use Rattle.std.specs.Vec.{made};
 ghost use Rattle.program.specs.Parts.{parts-of};
 ghost use Rattle.terms.specs.Shapes.{All-below};
-ghost use Rattle.terms.specs.Terms.{size};
+ghost use Rattle.terms.specs.Terms.{size, Grows};
 use crate::declarations::Declarations;
 use crate::declarations::Meaning;
 use crate::declarations::Type;
@@ -27,8 +27,7 @@ impl Declarations {
         term: usize,
         limits: Limits,
     ) -> Result<u16, TermFault>
-        ensures number { λ r. ⌜ made r (λ k. k < size (now (self .exit) .terms)) ⌝ }
-        ensures longer { λ _. ⌜ size (now (self .entry) .terms) ≤ size (now (self .exit) .terms) ⌝ }
+        ensures { λ r. ⌜ made r (λ k. (k < size (now (self .exit) .terms)) × Grows (now (self .entry) .terms) (now (self .exit) .terms)) ⌝ }
     {
         let terms = spec.terms.as_slice();
         let _end = self.check(text, terms, term, Type::Number)?;
@@ -44,8 +43,7 @@ impl Declarations {
         term: usize,
         most: usize,
     ) -> Result<(u16, usize), TermFault>
-        ensures number { λ r. ⌜ made r (λ p. (p .0 < size (now (self .exit) .terms)) × (term < p .1)) ⌝ }
-        ensures longer { λ _. ⌜ size (now (self .entry) .terms) ≤ size (now (self .exit) .terms) ⌝ }
+        ensures { λ r. ⌜ made r (λ p. (p .0 < size (now (self .exit) .terms)) × (term < p .1) × Grows (now (self .entry) .terms) (now (self .exit) .terms)) ⌝ }
     {
         if term >= terms.len() {
             return Err(TermFault::WrongType { at: 0 });
@@ -93,8 +91,7 @@ impl Declarations {
         count: u8,
         most: usize,
     ) -> Result<(Parts, usize), TermFault>
-        ensures numbers { λ r. ⌜ made r (λ p. All-below (size (now (self .exit) .terms)) (parts-of (p .0)) × (first ≤ p .1)) ⌝ }
-        ensures longer { λ _. ⌜ size (now (self .entry) .terms) ≤ size (now (self .exit) .terms) ⌝ }
+        ensures { λ r. ⌜ made r (λ p. All-below (size (now (self .exit) .terms)) (parts-of (p .0)) × (first ≤ p .1) × Grows (now (self .entry) .terms) (now (self .exit) .terms)) ⌝ }
     {
         let mut parts = Parts::new();
         let mut next = first;

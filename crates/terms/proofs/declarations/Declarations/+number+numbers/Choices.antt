@@ -2,7 +2,7 @@ use Prim.Native.Nat.{_+_, _*_, _-_, _≤_}
 use lib.ListN.{length}
 use Rattle.program.specs.Parts.{parts-of}
 use Rattle.terms.specs.Shapes.{All-below}
-use Rattle.terms.specs.Terms.{size}
+use Rattle.terms.specs.Terms.{size, Grows}
 use Rattle.terms.proofs.declarations.Declarations.+number+numbers.Given as given
 
 abbrev pub μ-number : given.MeasureT-number
@@ -12,4 +12,4 @@ abbrev pub μ-numbers : given.MeasureT-numbers
 μ-numbers l = 2 * (length (l .terms .now) - l .first) + 1
 
 abbrev pub Inv-numbers-loop : given.InvT-numbers-loop
-Inv-numbers-loop l = All-below (size (l .self .terms)) (parts-of (l .parts)) × (l .first ≤ l .next) × (size (l .entry .self .terms) ≤ size (l .self .terms))
+Inv-numbers-loop l = All-below (size (l .self .terms)) (parts-of (l .parts)) × (l .first ≤ l .next) × Grows (l .entry .self .terms) (l .self .terms)

@@ -1,0 +1,26 @@
+// Labels are used once. They are compared by value: numbers as numbers, names by their bytes.
+use crate::line_fault::LineFault;
+use syntax::spec::Label;
+use syntax::spec::Line;
+
+pub(crate) fn fresh_label(text: &[u8], earlier: &[Line], label: Label) -> Result<(), LineFault> {
+    for line in earlier {
+        if same_label(text, line.label, label) {
+            return Err(LineFault::Repeated { at: label.place() });
+        }
+    }
+    Ok(())
+}
+
+fn same_label(text: &[u8], a: Label, b: Label) -> bool {
+    match a {
+        Label::Number { at: _, value: m } => match b {
+            Label::Number { at: _, value: n } => m == n,
+            Label::Name(_) => false,
+        },
+        Label::Name(m) => match b {
+            Label::Number { at: _, value: _ } => false,
+            Label::Name(n) => m.part.of(text) == n.part.of(text),
+        },
+    }
+}
