@@ -1,0 +1,318 @@
+-- A role's life: it starts, hears and says. Saying succeeds exactly where the term is derivable.
+use Prim.Native.Nat.{ℕ}
+use mathlib.Core.Bool.{Bool, true, false, cond}
+use mathlib.Core.List.{List, [], _∷_}
+use mathlib.Core.Logic.{_⊎_, inl, inr, _↔_}
+use mathlib.Core.Option.{Option, none as nothing, some}
+use mathlib.Core.Path.{_≡_, refl, ap, subst, sym, subst⁻¹}
+use native.Mathlib.Omega.{arith}
+use lib.Dec.{T}
+use Rattle.model.specs.Trees.{Head, crypted, Tree, leaf, node, Trees, none, more, crypt, _among_, Within, itself, inside}
+use Rattle.model.specs.Deduction.{Party, opens, Derives, held, build, Composes, known, compose as built, Saturated}
+use Rattle.model.specs.Roles.{give, hear, say, Entry, Role, act, fill, enter, meet, Composed, got, lacks, compose, knows, can, settled, give-all, start, heard, Said, spoke, failed, say-composed, said}
+use Rattle.model.specs.Entries.{Has, Ascends, Once, Below}
+use Rattle.model.specs.Keeping.{Inv, Nobody, Kept}
+use Rattle.model.specs.Lives.{Life, starts, hears, says, OneOf, Passed, Holdings, New, Disciplined, after-hear, spoken, after-say, run}
+use Rattle.model.proofs.Trees.{within-trans, within-part}
+use Rattle.model.proofs.Deduction.{complete, derives-map}
+use Rattle.model.proofs.Entries.{entry, Keeps, held-has, knows-has, has-old, has-new}
+use Rattle.model.proofs.Growing.{Grows, stay, join, grows-has}
+use Rattle.model.proofs.Composing.{composes-bind, can-composes, composes-can, Base, Whole, Built, Good, good, joined-composes, joined-parts}
+use Rattle.model.proofs.Keeping.{Met, Welcome, inv-built, inv-met, Meets, meets}
+use Rattle.model.proofs.Resting.{settled-rests, settled-saturated}
+
+-- within a tree that has passed
+abbrev pub Seen : Life → Tree → Type 0
+Seen l v = (u : Tree) × Passed l u × Within v u
+
+pub seen-whole : (l : Life) → Whole (Seen l)
+seen-whole l h ts s u i = (s .0, s .1, within-part h ts (s .0) (s .2) u i)
+
+kept-more : (P : Party) (H H′ S S′ : Tree → Type 0) → ((u : Tree) → H u → H′ u) → ((u : Tree) → S u → S′ u) → (s : Role) → Kept P H S s → Kept P H′ S′ s
+kept-more P H H′ S S′ f g s v = record {
+  below = v .below;
+  ascends = v .ascends;
+  once = v .once;
+  sound = λ u h. derives-map P H H′ f (v .sound u h);
+  seen = λ u h. g u (v .seen u h);
+  done = v .done;
+}
+
+-- what a state has of a life: the list is kept, has all that is held, and is saturated
+pub record Lived (P : Party) (l : Life) (s : Role) : Type 0 where
+  pub inv : Kept P (Holdings l) (Seen l) s
+  pub all : (u : Tree) → Holdings l u → Has (s .known) u
+  pub sat : Saturated P (Has (s .known))
+
+-- the givens are entered, each once
+record Gave (P : Party) (H S : Tree → Type 0) (ts : List Tree) (s s′ : Role) : Type 0 where
+  inv : Kept P H S s′
+  keeps : Keeps (s .known) (s′ .known)
+  has : (u : Tree) → OneOf ts u → Has (s′ .known) u
+
+module _ (P : Party) (H S : Tree → Type 0) where
+  gave-one : (t : Tree) (s : Role) → Welcome P H S t → Kept P H S s → Gave P H S (t ∷ []) s (cond (knows (s .known) t) s (enter t (s .next) false (fill give s)))
+  gave-one t s x v = go (knows (s .known) t) (knows-has (s .known) t)
+    where
+      e : Entry
+      e = entry t (s .next) false
+
+      has-one : (es : List Entry) → Has es t → (u : Tree) → OneOf (t ∷ []) u → Has es u
+      has-one es h u (inl p) = subst⁻¹ (Has es) p h
+      has-one es h u (inr k) = elim k [ ]
+
+      go : (b : Bool) → (T b ↔ Has (s .known) t) → Gave P H S (t ∷ []) s (cond b s (enter t (s .next) false (fill give s)))
+      go true q = record { inv = v; keeps = λ u h. h; has = has-one (s .known) (q .0 tt) }
+      go false q = record {
+        inv = inv-met P H S Nobody (join stay e (q .1) (tt, x) (omega arith) (omega arith)) v;
+        keeps = has-old (s .known) e;
+        has = has-one _ (has-new (s .known) e);
+      }
+
+  gave-then : (t : Tree) (ts : List Tree) (s s₁ s₂ : Role) → Gave P H S (t ∷ []) s s₁ → Gave P H S ts s₁ s₂ → Gave P H S (t ∷ ts) s s₂
+  gave-then t ts s s₁ s₂ a b = record { inv = b .inv; keeps = λ u h. b .keeps u (a .keeps u h); has = has }
+    where
+      has : (u : Tree) → OneOf (t ∷ ts) u → Has (s₂ .known) u
+      has u (inl p) = b .keeps u (a .has u (inl p))
+      has u (inr i) = b .has u i
+
+  gave : (ts : List Tree) (s : Role) → ((u : Tree) → OneOf ts u → Welcome P H S u) → Kept P H S s → Gave P H S ts s (give-all P ts s)
+  unfolding give-all
+  gave [] s f v = record { inv = v; keeps = λ u h. h; has = λ u i. elim i [ ] }
+  gave (t ∷ ts) s f v = let a = gave-one t s (f t (inl refl)) v in gave-then t ts s _ _ a (gave ts _ (λ u i. f u (inr i)) (a .inv))
+
+module _ (P : Party) where
+  -- settling ends in a state that has all
+  settle-lived : (l : Life) (s : Role) → Kept P (Holdings l) (Seen l) s → ((u : Tree) → Holdings l u → Has (s .known) u) → Lived P l (settled P s)
+  settle-lived l s v a =
+      let k = settled-rests P (Holdings l) (Seen l) (seen-whole l) s v in
+      record { inv = k .inv; all = λ u h. k .keeps u (a u h); sat = settled-saturated P (Holdings l) (Seen l) (seen-whole l) s v }
+
+  lived-start : (ts : List Tree) → Lived P (starts ts) (start P ts)
+  unfolding start
+  lived-start ts = settle-lived (starts ts) (give-all P ts empty) (g .inv) (g .has)
+    where
+      empty : Role
+      empty = record { known = []; next = 0; acts = [] }
+
+      nothing-yet : Kept P (OneOf ts) (Seen (starts ts)) empty
+      nothing-yet = record { below = tt; ascends = tt; once = tt; sound = λ u h. elim h [ ]; seen = λ u h. elim h [ ]; done = tt }
+
+      g : Gave P (OneOf ts) (Seen (starts ts)) ts empty (give-all P ts empty)
+      g = gave P (OneOf ts) (Seen (starts ts)) ts empty (λ u i. (held i, (u, i, itself))) nothing-yet
+
+  lived-hear : (l : Life) (t : Tree) (s : Role) → Lived P l s → Lived P (hears l t) (heard P t s)
+  unfolding heard
+  lived-hear l t s v = settle-lived (hears l t) s₁ inv all
+    where
+      H : Tree → Type 0
+      H = Holdings (hears l t)
+
+      S : Tree → Type 0
+      S = Seen (hears l t)
+
+      x : Welcome P H S t
+      x = (held (inr refl), (t, inr refl, itself))
+
+      s₁ : Role
+      s₁ = meet t (s .next) (fill hear s)
+
+      m : Meets P (Welcome P H S) (more t none) (s .next) (fill hear s) s₁
+      m = meets P (Welcome P H S) (more t none) (s .next) (fill hear s) (λ u. elim [ inl p ↦ subst⁻¹ (Welcome P H S) p x | inr i ↦ absurd i ])
+
+      before : Kept P H S s
+      before = kept-more P (Holdings l) H (Seen l) S (λ u h. inl h) (λ u k. (k .0, inl (k .1), k .2)) s (v .inv)
+
+      inv : Kept P H S s₁
+      inv = subst⁻¹ (Inv P H S Nobody (s₁ .known)) (m .next-same) (inv-met P H S Nobody (m .grows) before)
+
+      all : (u : Tree) → H u → Has (s₁ .known) u
+      all u (inl h) = grows-has (Met (Welcome P H S)) (m .grows) u (v .all u h)
+      all u (inr p) = m .has u (inl p)
+
+abbrev is-failed : Said → Type 0
+is-failed (spoke s) = ⊥
+is-failed (failed u) = Unit {0}
+
+abbrev failed-at : Said → Tree
+failed-at (spoke s) = leaf 0
+failed-at (failed u) = u
+
+-- what is reported is a part of the tree, or the tree
+fails-within : (P : Party) (makes : ℕ → Bool) (t : Tree) (s : Role) (u : Tree) → said P makes t s ≡ failed u → Within u t
+unfolding said
+fails-within P makes t s u = go (compose P makes t s) (good P makes (λ v. Within v t) (λ h ts w x i. within-part h ts t w x i) t s itself)
+  where
+    go : (c : Composed) → Good P makes (λ v. Within v t) s t c → say-composed c ≡ failed u → Within u t
+    go (got s′ r) g e = absurd (subst is-failed (sym e) tt)
+    go (lacks w) g e = subst (λ x. Within x t) (ap failed-at e) (g .0)
+
+-- what composing starts from in a say: the list, and the names made now
+abbrev Source : Life → (ℕ → Bool) → Tree → Role → Tree → Type 0
+Source l makes t s = Base makes (Seen (says l makes t)) (s .known)
+
+-- what the list becomes in composing
+abbrev Became : Party → Life → (ℕ → Bool) → Tree → Role → List Entry → ℕ → Type 0
+Became P l makes t s fs m = Grows (Built P makes (Seen (says l makes t))) (s .known) (s .next) fs m
+
+-- saying, after a life
+module _ (P : Party) (l : Life) (s : Role) (v : Lived P l s) (makes : ℕ → Bool) (new : New l makes) (t : Tree) where
+  -- a name made now stands in no term seen before
+  not-before : (u : Tree) → Seen l u → (n : ℕ) → T (makes n) → ¬ Within (leaf n) u
+  not-before u k n m w = new n m (k .0) (k .1) (within-trans w (k .2))
+
+  -- it stands in this tree
+  seen-here : (n : ℕ) → T (makes n) → Seen (says l makes t) (leaf n) → Within (leaf n) t
+  seen-here n m (u, inl q, w) = absurd (new n m u q w)
+  seen-here n m (u, inr p, w) = subst (Within (leaf n)) p w
+
+  -- a term without it composes from what was known before
+  strip : {u : Tree} → ((n : ℕ) → T (makes n) → ¬ Within (leaf n) u) → Composes P (Source l makes t s) u → Composes P (Has (s .known)) u
+  strip f (known (inl h)) = known h
+  strip {u = leaf n} f (known (inr m)) = absurd (f n (m .0) itself)
+  strip {u = node h ts} f (known (inr m)) = absurd m
+  strip f (built m g) = built m (λ u i. strip (λ n k w. f n k (inside i w)) (g u i))
+
+  -- so the names made now open nothing that was known before
+  opened-before : (u k : Tree) → Has (s .known) (crypt u k) → Composes P (Source l makes t s) k → Has (s .known) u
+  opened-before u k h c = v .sat .texts u k h (strip (not-before k key) c)
+    where
+      key : Seen l k
+      key = seen-whole l crypted (more u (more k none)) (v .inv .seen (crypt u k) h) k (inr (inl refl))
+
+  -- the source is saturated, and has all that is held
+  source-saturated : Saturated P (Source l makes t s)
+  source-saturated = record { parts = parts; texts = texts }
+    where
+      parts : (h : Head) (ts : Trees) (u : Tree) → Source l makes t s (node h ts) → T (opens P h) → u among ts → Source l makes t s u
+      parts h ts u (inl k) o i = inl (v .sat .parts h ts u k o i)
+      parts h ts u (inr k) o i = elim k [ ]
+
+      texts : (u k : Tree) → Source l makes t s (crypt u k) → Composes P (Source l makes t s) k → Source l makes t s u
+      texts u k (inl h) c = inl (opened-before u k h c)
+      texts u k (inr h) c = elim h [ ]
+
+  source-all : (u : Tree) → Holdings (says l makes t) u → Source l makes t s u
+  source-all u (inl h) = inl (v .all u h)
+  source-all (leaf n) (inr m) = inr (m .0, (t, inr refl, m .1))
+  source-all (node h ts) (inr m) = elim m [ ]
+
+  -- what is derivable composes
+  derivable-composes : {u : Tree} → Derives P (Holdings (says l makes t)) u → Composes P (Source l makes t s) u
+  derivable-composes = complete P (Holdings (says l makes t)) (Source l makes t s) source-saturated source-all
+
+  composed-good : Good P makes (Seen (says l makes t)) s t (compose P makes t s)
+  composed-good = good P makes (Seen (says l makes t)) (seen-whole (says l makes t)) t s (t, inr refl, itself)
+
+  -- what has joined is derivable
+  inv-after : {fs : List Entry} {m : ℕ} → Became P l makes t s fs m → Inv P (Holdings (says l makes t)) (Seen (says l makes t)) Nobody fs m
+  inv-after g = inv-built P (Holdings (says l makes t)) (Seen (says l makes t)) makes (λ n m k. held (inr (m, seen-here n m k))) Nobody g before
+    where
+      before : Kept P (Holdings (says l makes t)) (Seen (says l makes t)) s
+      before = kept-more P (Holdings l) (Holdings (says l makes t)) (Seen l) (Seen (says l makes t)) (λ u h. inl h) (λ u k. (k .0, inl (k .1), k .2)) s (v .inv)
+
+  -- the names made now join with the term
+  made-joins : {fs : List Entry} {m : ℕ} → Became P l makes t s fs m → (n : ℕ) → T (makes n) → {u : Tree} → Within (leaf n) u → Has fs u → Has fs (leaf n)
+  made-joins g n m itself h = h
+  made-joins {fs = fs} g n m (inside {h = k} {ts = ts} {u = u} i w) h = joins (joined-parts P makes (Seen (says l makes t)) g k ts h) (made-joins g n m w)
+    where
+      joins : Has (s .known) (node k ts) ⊎ ((x : Tree) → x among ts → Has fs x) → (Has fs u → Has fs (leaf n)) → Has fs (leaf n)
+      joins (inl x) f = absurd (not-before (node k ts) (v .inv .seen (node k ts) x) n m (inside i w))
+      joins (inr x) f = f (x u i)
+
+  -- what was said leaves the list saturated
+  saturated-after : {fs : List Entry} {m : ℕ} → Became P l makes t s fs m → Saturated P (Has fs)
+  saturated-after {fs = fs} g = record { parts = parts; texts = texts }
+    where
+      S : Tree → Type 0
+      S = Seen (says l makes t)
+
+      keeps : Keeps (s .known) fs
+      keeps = grows-has (Built P makes S) g
+
+      before : {k : Tree} → Composes P (Has fs) k → Composes P (Source l makes t s) k
+      before = composes-bind P (Has fs) (Source l makes t s) (joined-composes P makes S g)
+
+      parts : (h : Head) (ts : Trees) (u : Tree) → Has fs (node h ts) → T (opens P h) → u among ts → Has fs u
+      parts h ts u k o i = elim (joined-parts P makes S g h ts k) [ inl x ↦ keeps u (v .sat .parts h ts u x o i) | inr f ↦ f u i ]
+
+      texts : (u k : Tree) → Has fs (crypt u k) → Composes P (Has fs) k → Has fs u
+      texts u k h c = elim (joined-parts P makes S g crypted (more u (more k none)) h) [ inl x ↦ keeps u (opened-before u k x (before c)) | inr f ↦ f u (inl refl) ]
+
+  lived-say : (s′ : Role) (r : ℕ) → Good P makes (Seen (says l makes t)) s t (got s′ r) → Lived P (says l makes t) s′
+  lived-say s′ r g = record { inv = inv-after (g .0); all = all; sat = saturated-after (g .0) }
+    where
+      all : (u : Tree) → Holdings (says l makes t) u → Has (s′ .known) u
+      all u (inl h) = grows-has (Built P makes (Seen (says l makes t))) (g .0) u (v .all u h)
+      all (leaf n) (inr m) = made-joins (g .0) n (m .0) (m .1) (held-has (s′ .known) t r (g .1))
+      all (node h ts) (inr m) = elim m [ ]
+
+  -- the theorem, for a state that has all of a life
+  said-iff : ((s′ : Role) × (said P makes t s ≡ spoke s′)) ↔ Derives P (Holdings (says l makes t)) t
+  unfolding said
+  said-iff = go (compose P makes t s) composed-good
+    where
+      go : (c : Composed) → Good P makes (Seen (says l makes t)) s t c → ((s′ : Role) × (say-composed c ≡ spoke s′)) ↔ Derives P (Holdings (says l makes t)) t
+      go (got s′ r) g = ((λ e. (inv-after (g .0)) .sound t (held-has (s′ .known) t r (g .1))), λ d. (act (say r) s′, refl))
+      go (lacks u) g = ((λ e. absurd (subst is-failed (e .1) tt)), λ d. absurd (g .2 (derivable-composes d)))
+
+  said-fails : (u : Tree) → said P makes t s ≡ failed u → ¬ Derives P (Holdings (says l makes t)) u
+  unfolding said
+  said-fails u = go (compose P makes t s) composed-good
+    where
+      go : (c : Composed) → Good P makes (Seen (says l makes t)) s t c → say-composed c ≡ failed u → ¬ Derives P (Holdings (says l makes t)) u
+      go (got s′ r) g e = absurd (subst is-failed (sym e) tt)
+      go (lacks w) g e = subst (λ x. ¬ Derives P (Holdings (says l makes t)) x) (ap failed-at e) (λ d. g .1 (derivable-composes d))
+
+-- every life that keeps the discipline
+abbrev LivedTo : Party → Life → Option Role → Type 0
+LivedTo P l nothing = Unit {0}
+LivedTo P l (some s) = Lived P l s
+
+lived-to : (P : Party) (l : Life) → Disciplined l → LivedTo P l (run P l)
+unfolding run said
+lived-to P (starts ts) d = lived-start P ts
+lived-to P (hears l t) d = go (run P l) (lived-to P l d)
+  where
+    go : (o : Option Role) → LivedTo P l o → LivedTo P (hears l t) (after-hear P t o)
+    go nothing v = tt
+    go (some s) v = lived-hear P l t s v
+lived-to P (says l makes t) d = go (run P l) (lived-to P l (d .0))
+  where
+    -- the action `say` changes neither the list nor the next register
+    ended : (s s′ : Role) (r : ℕ) → Lived P (says l makes t) s′ → Lived P (says l makes t) (act (say r) s′)
+    ended s s′ r k = record { inv = k .inv; all = k .all; sat = k .sat }
+
+    come : (s : Role) → Lived P l s → (c : Composed) → Good P makes (Seen (says l makes t)) s t c → LivedTo P (says l makes t) (spoken (say-composed c))
+    come s v (got s′ r) g = ended s s′ r (lived-say P l s v makes (d .1) t s′ r g)
+    come s v (lacks u) g = tt
+
+    go : (o : Option Role) → LivedTo P l o → LivedTo P (says l makes t) (after-say P makes t o)
+    go nothing v = tt
+    go (some s) v = come s v (compose P makes t s) (composed-good P l s v makes (d .1) t)
+
+-- after any life that keeps the discipline
+module _ (P : Party) (l : Life) (disciplined : Disciplined l) (s : Role) (ran : run P l ≡ some s) where
+  pub lived : Lived P l s
+  lived = subst (LivedTo P l) ran (lived-to P l disciplined)
+
+  -- the known list has each term once, in register order
+  pub known-list : Once (s .known) × Ascends (s .known) × Below (s .known) (s .next)
+  known-list = (lived .inv .once, lived .inv .ascends, lived .inv .below)
+
+  -- what can be composed without making names is what is derivable
+  pub can-derivable : (u : Tree) → T (can P u (s .known)) ↔ Derives P (Holdings l) u
+  can-derivable u = ((λ c. derives (can-composes P (s .known) u c)), λ d. composes-can P (s .known) (complete P (Holdings l) (Has (s .known)) (lived .sat) (lived .all) d))
+    where
+      derives : {w : Tree} → Composes P (Has (s .known)) w → Derives P (Holdings l) w
+      derives (known h) = lived .inv .sound _ h
+      derives (built m f) = build m (λ x i. derives (f x i))
+
+  -- THE THEOREM: a tree can be said exactly if it is derivable, from the names made now too;
+  -- what is reported otherwise is not derivable, and is the tree or within it
+  module _ (makes : ℕ → Bool) (new : New l makes) (t : Tree) where
+    pub says-derivable : ((s′ : Role) × (said P makes t s ≡ spoke s′)) ↔ Derives P (Holdings (says l makes t)) t
+    says-derivable = said-iff P l s lived makes new t
+
+    pub fails-underivable : (u : Tree) → said P makes t s ≡ failed u → (¬ Derives P (Holdings (says l makes t)) u) × Within u t
+    fails-underivable u e = (said-fails P l s lived makes new t u e, fails-within P makes t s u e)
