@@ -9,10 +9,10 @@ use Rattle.model.specs.Trees.{Tree, leaf, Formed}
 use Rattle.model.specs.Deduction.{Party}
 use Rattle.model.specs.Roles.{Act, say, Role, start, Said, spoke, failed, said}
 use Rattle.model.specs.Lives.{spoken}
-use Rattle.model.specs.Runs.{Memory, empty, Machine, ran, exec}
+use Rattle.model.specs.Runs.{Memory, empty, Machine, ran, exec, says-of, later, answer}
 use Rattle.model.specs.Holdings.{Stock, add, Reads-as}
 use Rattle.model.specs.Specifications.{Duty, begin, speak, listen}
-use Rattle.model.specs.Programs.{nobody-yet, given, line, new-names, says-of, later, answer, next-role, takes, names}
+use Rattle.model.specs.Programs.{nobody-yet, given, line, new-names, next-role, takes, names}
 use Rattle.model.proofs.Lists.{firsts-append}
 use Rattle.model.proofs.Machine.{some-inj, no-some, Below}
 use Rattle.model.proofs.Sheets.{Fed}
@@ -63,7 +63,7 @@ module _ (term : ℕ → Tree) where
       go r (some t) e = let h = b r t e in absurd (omega arith)
 
   pub went-duty : (P : Party) (d : Duty) (s s′ : Role) (Γ : Memory) → Good s Γ (s .next) None → Fit d s → next-role term P d s ≡ some s′
-      → (w : Went P s Γ s′ None (takes term P d) (names term d s s′)) × Told d s s′ (w .sheet)
+      → (w : Went P s Γ s′ None (takes term P d) (names d s s′)) × Told d s s′ (w .sheet)
   went-duty P (begin ts) s s′ Γ g f e = (
     subst (λ z. Went P s Γ z None (given P ts) []) (some-inj e)
         (subst⁻¹ (λ z. (Δ : Memory) → Good z Δ (z .next) None → Went P z Δ (start P ts) None (given P ts) []) (f .0)
@@ -92,7 +92,7 @@ module _ (term : ℕ → Tree) where
     Ready P s [] ks = Unit {0}
     Ready P s (d ∷ ds) ks =
         Fit d s × elim (next-role term P d s) [
-          | some s′ ↦ (ks′ : List ℕ) × Fed (λ a k. R (leaf a) ≡ leaf k) (names term d s s′) ks ks′ × Ready P s′ ds ks′
+          | some s′ ↦ (ks′ : List ℕ) × Fed (λ a k. R (leaf a) ≡ leaf k) (names d s s′) ks ks′ × Ready P s′ ds ks′
           | nothing ↦ ⊥
         ]
 
@@ -101,7 +101,7 @@ module _ (term : ℕ → Tree) where
     cost P s is ns [] = 0
     cost P s is ns (d ∷ ds) =
         elim (next-role term P d s) [
-          | some s′ ↦ line-cost c R s s′ (is ++ takes term P d) (ns ++ names term d s s′) + cost P s′ (is ++ takes term P d) (ns ++ names term d s s′) ds
+          | some s′ ↦ line-cost c R s s′ (is ++ takes term P d) (ns ++ names d s s′) + cost P s′ (is ++ takes term P d) (ns ++ names d s s′) ds
           | nothing ↦ 0
         ]
 
@@ -122,7 +122,7 @@ module _ (term : ℕ → Tree) where
           party = a .party;
           role = s′;
           memory = M′ .mem;
-          holdings = add (a .holdings) (takes term (a .party) d) vs (names term d (a .role) s′) (a .numbers);
+          holdings = add (a .holdings) (takes term (a .party) d) vs (names d (a .role) s′) (a .numbers);
           numbers = M′ .numbers;
           duties = ds;
         }
@@ -160,8 +160,8 @@ module _ (term : ℕ → Tree) where
     module _ (all-read : Total R) where
       call-runs : (a : Actor) (space : ℕ) (vs : List Tree) (d : Duty) (ds : List Duty) (w : Well a) → Fit d (a .role)
           → Fed (λ t v. R t ≡ v) (takes term (a .party) d) vs [] → (s′ : Role) → next-role term (a .party) d (a .role) ≡ some s′
-          → (ks : List ℕ) → Fed (λ a k. R (leaf a) ≡ leaf k) (names term d (a .role) s′) (a .numbers) ks → Ready (a .party) s′ ds ks
-          → (let is = firsts (a .holdings .taken) ++ takes term (a .party) d in let ns = firsts (a .holdings .made) ++ names term d (a .role) s′ in
+          → (ks : List ℕ) → Fed (λ a k. R (leaf a) ≡ leaf k) (names d (a .role) s′) (a .numbers) ks → Ready (a .party) s′ ds ks
+          → (let is = firsts (a .holdings .taken) ++ takes term (a .party) d in let ns = firsts (a .holdings .made) ++ names d (a .role) s′ in
           (line-cost c R (a .role) s′ is ns + cost (a .party) s′ is ns ds ≤ space)
           → remaining a ≡ line-cost c R (a .role) s′ is ns + cost (a .party) s′ is ns ds → Taken a space vs d ds)
       call-runs a space vs d ds w fit fi s′ e ks fn rd room k =
@@ -187,19 +187,19 @@ module _ (term : ℕ → Tree) where
           h = a .holdings
 
           h′ : Stock
-          h′ = add h (takes term P d) vs (names term d s s′) (a .numbers)
+          h′ = add h (takes term P d) vs (names d s s′) (a .numbers)
 
           is′ : List Tree
           is′ = firsts (h .taken) ++ takes term P d
 
           ns′ : List ℕ
-          ns′ = firsts (h .made) ++ names term d s s′
+          ns′ = firsts (h .made) ++ names d s s′
 
           is= : firsts (h′ .taken) ≡ is′
           is= = firsts-append (h .taken) (zip (takes term P d) vs) ∙ ap (λ l. firsts (h .taken) ++ l) (fed-firsts _ (takes term P d) vs [] fi)
 
           ns= : firsts (h′ .made) ≡ ns′
-          ns= = firsts-append (h .made) (zip (names term d s s′) (a .numbers)) ∙ ap (λ l. firsts (h .made) ++ l) (fed-firsts _ (names term d s s′) (a .numbers) ks fn)
+          ns= = firsts-append (h .made) (zip (names d s s′) (a .numbers)) ∙ ap (λ l. firsts (h .made) ++ l) (fed-firsts _ (names d s s′) (a .numbers) ks fn)
 
           lc= : line-cost c R s s′ (firsts (h′ .taken)) (firsts (h′ .made)) ≡ line-cost c R s s′ is′ ns′
           lc= = λ i. line-cost c R s s′ (is= i) (ns= i)
@@ -207,12 +207,12 @@ module _ (term : ℕ → Tree) where
           co= : cost P s′ (firsts (h′ .taken)) (firsts (h′ .made)) ds ≡ cost P s′ is′ ns′ ds
           co= = λ i. cost P s′ (is= i) (ns= i) ds
 
-          u : (w′ : Went P s (w .sheet) s′ None (takes term P d) (names term d s s′)) × Told d s s′ (w′ .sheet)
+          u : (w′ : Went P s (w .sheet) s′ None (takes term P d) (names d s s′)) × Told d s s′ (w′ .sheet)
           u = went-duty P d s s′ (w .sheet) (w .stands .good) fit e
 
           z : (M′ : Machine) × Runs-as c R s s′ h′ [] ks (machine a space vs) M′
               × ((r : ℕ) (t : Tree) → u .0 .sheet r ≡ some t → M′ .mem r ≡ some (R t)) × Stands P s′ (u .0 .sheet) (M′ .mem) h′
-          z = line-chosen P c R all-read s s′ (w .sheet) (takes term P d) (names term d s s′) (u .0) (machine a space vs) h (w .stands) (w .reads) [] ks fi fn
+          z = line-chosen P c R all-read s s′ (w .sheet) (takes term P d) (names d s s′) (u .0) (machine a space vs) h (w .stands) (w .reads) [] ks fi fn
               (less (line-cost c R s s′ is′ ns′) (line-cost c R s s′ (firsts (h′ .taken)) (firsts (h′ .made))) (cost P s′ is′ ns′ ds) space room lc=)
 
       pub take-call : (a : Actor) (space : ℕ) (vs : List Tree) (d : Duty) (ds : List Duty) → a .duties ≡ d ∷ ds → Well a
@@ -238,9 +238,9 @@ module _ (term : ℕ → Tree) where
           cost= = ap (cost P s is ns) q
 
           go : (o : Option Role) → next-role term P d s ≡ o
-              → elim o as (λ x. Type 0) [ some s′ ↦ (ks′ : List ℕ) × Fed (λ a k. R (leaf a) ≡ leaf k) (names term d s s′) (a .numbers) ks′ × Ready P s′ ds ks′ | nothing ↦ ⊥ ]
-              → elim o as (λ x. ℕ) [ some s′ ↦ line-cost c R s s′ (is ++ takes term P d) (ns ++ names term d s s′) + cost P s′ (is ++ takes term P d) (ns ++ names term d s s′) ds | nothing ↦ 0 ] ≤ space
-              → remaining a ≡ elim o as (λ x. ℕ) [ some s′ ↦ line-cost c R s s′ (is ++ takes term P d) (ns ++ names term d s s′) + cost P s′ (is ++ takes term P d) (ns ++ names term d s s′) ds | nothing ↦ 0 ]
+              → elim o as (λ x. Type 0) [ some s′ ↦ (ks′ : List ℕ) × Fed (λ a k. R (leaf a) ≡ leaf k) (names d s s′) (a .numbers) ks′ × Ready P s′ ds ks′ | nothing ↦ ⊥ ]
+              → elim o as (λ x. ℕ) [ some s′ ↦ line-cost c R s s′ (is ++ takes term P d) (ns ++ names d s s′) + cost P s′ (is ++ takes term P d) (ns ++ names d s s′) ds | nothing ↦ 0 ] ≤ space
+              → remaining a ≡ elim o as (λ x. ℕ) [ some s′ ↦ line-cost c R s s′ (is ++ takes term P d) (ns ++ names d s s′) + cost P s′ (is ++ takes term P d) (ns ++ names d s s′) ds | nothing ↦ 0 ]
               → Taken a space vs d ds
           go nothing e x r k = elim x [ ]
           go (some s′) e x r k = call-runs a space vs d ds w (ready .0) fi s′ e (x .0) (x .1) (x .2) r k

@@ -15,8 +15,8 @@ use Rattle.model.specs.Roles.{Act, give, new, hear as hear-it, say as say-it, 
 use Rattle.model.specs.Runs.{Memory, set, Fault, mismatch, full, invalid, broken, Machine, ran, refused, exec}
 use Rattle.model.specs.Holdings.{add, Readable}
 use Rattle.model.specs.Specifications.{Duty, begin as to-start, speak, listen, Specification, message}
-use Rattle.model.specs.Programs.{given, line, next-role, takes, begins, says-line, hears-line, Stage, turn-of, stage}
-use Rattle.model.specs.Sessions.{Outcome, ended, stopped, attempt, State, Event, begin, say, hear, build, other, Answer, taken, declined, number-of, rest-of-stages, to-begin, to-say, to-hear, in-turn, valid, gives, news, first-actions, all-actions, all-makes, concluded, machine-for, tried, counts-right, handled, call}
+use Rattle.model.specs.Programs.{given, line, next-role, takes, begins, says-line, hears-line, Stage, turn-of, stage, all-actions, all-makes}
+use Rattle.model.specs.Sessions.{Outcome, ended, stopped, attempt, State, Event, begin, say, hear, build, other, Answer, taken, declined, number-of, rest-of-stages, to-begin, to-say, to-hear, in-turn, valid, gives, news, first-actions, concluded, machine-for, tried, counts-right, handled, call}
 use Rattle.model.specs.SessionLaw.{Taken, Refused, Numbered, answered, Decided}
 use Rattle.model.proofs.Tests.{and-left}
 use Rattle.model.proofs.Machine.{some-inj, never-ran}

@@ -14,11 +14,11 @@ use Rattle.model.specs.Deduction.{Party, Derives}
 use Rattle.model.specs.Roles.{Act, Role, start, Said, spoke, failed, said}
 use Rattle.model.specs.Entries.{At-rest}
 use Rattle.model.specs.Lives.{Life, Holdings, spoken}
-use Rattle.model.specs.Runs.{Memory, empty, full, Machine, Result, ran, refused, step, and-on, exec}
+use Rattle.model.specs.Runs.{Memory, empty, full, Machine, Result, ran, refused, step, and-on, exec, answer}
 use Rattle.model.specs.Holdings.{Stock, nothing-held, add, Term-of, Value-of, Readable}
 use Rattle.model.specs.Specifications.{Duty, begin as to-start, speak, listen, Line, Specification, message-at, message, own, duties, life-on, life}
-use Rattle.model.specs.Programs.{nobody-yet, given, line, answer, next-role, takes, names, Turn, begins, says-line, hears-line, Stage, turn-of, stage, stages-from, stages, Sayable, Accepted}
-use Rattle.model.specs.Sessions.{Outcome, ended, stopped, attempt, View, State, new-runs, Event, begin, say, hear, build, other, Answer, taken, declined, only, rest-of-stages, to-begin, to-say, to-hear, turn-now, begins-next, in-turn, valid, gives, news, first-actions, all-actions, all-makes, told, went-on, put, concluded, machine-for, tried, counts-right, handled, call, after}
+use Rattle.model.specs.Programs.{nobody-yet, given, line, next-role, takes, names, Turn, begins, says-line, hears-line, Stage, turn-of, stage, stages-from, stages, Sayable, Accepted, all-actions, all-makes}
+use Rattle.model.specs.Sessions.{Outcome, ended, stopped, attempt, View, State, new-runs, Event, begin, say, hear, build, other, Answer, taken, declined, only, rest-of-stages, to-begin, to-say, to-hear, turn-now, begins-next, in-turn, valid, gives, news, first-actions, told, went-on, put, concluded, machine-for, tried, counts-right, handled, call, after}
 use Rattle.model.specs.SessionLaw.{Holds-life}
 use Rattle.model.proofs.Tests.{and-right}
 use Rattle.model.proofs.Lists.{every-join, every-map}
@@ -110,28 +110,28 @@ fed-enough (x ∷ xs) (y ∷ ys) n e = let k = fed-enough xs ys n (omega arith) 
 module _ (term : ℕ → Tree) (P : Party) (c : Tree → ℕ) where
   pub duty-done : (d : Duty) (s s′ : Role) (Γ : Memory) (h : Stock) (M : Machine) → Stands P s Γ (M .mem) h → Fit term d s → next-role term P d s ≡ some s′
       → (M′ : Machine) → exec c (line s s′) M ≡ ran M′
-      → (let h′ = add h (takes term P d) (M .inputs) (names term d s s′) (M .numbers) in
+      → (let h′ = add h (takes term P d) (M .inputs) (names d s s′) (M .numbers) in
       (Γ′ : Memory) × Stands P s′ Γ′ (M′ .mem) h′ × Every (λ p. Derives P (Value-of h′) (p .1)) (told (turn-of d) (answer (line s s′) (M′ .mem)))
-      × Fed (λ t v. Unit {0}) (takes term P d) (M .inputs) (M′ .inputs) × Fed (λ a k. Unit {0}) (names term d s s′) (M .numbers) (M′ .numbers))
+      × Fed (λ t v. Unit {0}) (takes term P d) (M .inputs) (M′ .inputs) × Fed (λ a k. Unit {0}) (names d s s′) (M .numbers) (M′ .numbers))
   duty-done d s s′ Γ h M st f e M′ x = (
     u .0 .sheet,
     now,
     said-now d s s′ M′ (u .0 .sheet) h′ now (u .1),
     fed-map _ (λ t v. Unit {0}) (λ t v i. tt) (takes term P d) (M .inputs) (M′ .inputs) (done .fed),
-    fed-map _ (λ a k. Unit {0}) (λ a k i. tt) (names term d s s′) (M .numbers) (M′ .numbers) (done .numbered),
+    fed-map _ (λ a k. Unit {0}) (λ a k i. tt) (names d s s′) (M .numbers) (M′ .numbers) (done .numbered),
   )
     where
       h′ : Stock
-      h′ = add h (takes term P d) (M .inputs) (names term d s s′) (M .numbers)
+      h′ = add h (takes term P d) (M .inputs) (names d s s′) (M .numbers)
 
-      u : (w : Went P s Γ s′ None (takes term P d) (names term d s s′)) × Told term d s s′ (w .sheet)
+      u : (w : Went P s Γ s′ None (takes term P d) (names d s s′)) × Told term d s s′ (w .sheet)
       u = went-duty term P d s s′ Γ (st .good) f e
 
-      done : After (s′ .next) (u .0 .sheet) (u .0 .grew .line) (takes term P d) (names term d s s′) M M′
-      done = line-after P c s s′ Γ (takes term P d) (names term d s s′) (u .0) M h st M′ (subst (λ l. exec c l M ≡ ran M′) (line-is P (u .0 .grew)) x)
+      done : After (s′ .next) (u .0 .sheet) (u .0 .grew .line) (takes term P d) (names d s s′) M M′
+      done = line-after P c s s′ Γ (takes term P d) (names d s s′) (u .0) M h st M′ (subst (λ l. exec c l M ≡ ran M′) (line-is P (u .0 .grew)) x)
 
       now : Stands P s′ (u .0 .sheet) (M′ .mem) h′
-      now = stands-line P c s s′ Γ (takes term P d) (names term d s s′) (u .0) M h st M′ (subst (λ l. exec c l M ≡ ran M′) (line-is P (u .0 .grew)) x)
+      now = stands-line P c s s′ Γ (takes term P d) (names d s s′) (u .0) M h st M′ (subst (λ l. exec c l M ≡ ran M′) (line-is P (u .0 .grew)) x)
 
       said-now : (d : Duty) (s s′ : Role) (M′ : Machine) (Δ : Memory) (h′ : Stock) → Stands P s′ Δ (M′ .mem) h′ → Told term d s s′ Δ
           → Every (λ p. Derives P (Value-of h′) (p .1)) (told (turn-of d) (answer (line s s′) (M′ .mem)))
@@ -154,7 +154,7 @@ module _ (term : ℕ → Tree) (P : Party) (c : Tree → ℕ) where
   rests (speak l mk) s s′ Γ m h i st f e = elim i [ ]
   rests (listen l) s s′ Γ m h i st f e = subst (At-rest P) (some-inj e) (went-heard P (term l) s Γ (st .good) f .1)
 
-  no-names : (d : Duty) (s s′ : Role) → Takes-in d → names term d s s′ ≡ []
+  no-names : (d : Duty) (s s′ : Role) → Takes-in d → names d s s′ ≡ []
   no-names (to-start ts) s s′ i = refl
   no-names (speak l mk) s s′ i = elim i [ ]
   no-names (listen l) s s′ i = refl
@@ -169,26 +169,26 @@ module _ (term : ℕ → Tree) (P : Party) (c : Tree → ℕ) where
       let z = no-names d s s′ i in
       subst⁻¹ (λ xs. ((M′ : Machine) × (exec c xs M ≡ ran M′)) ↔ Readable P (add h (takes term P d) (M .inputs) [] [])) l
       (subst (λ ns. ((M′ : Machine) × (exec c (u .0 .grew .line) M ≡ ran M′)) ↔ Readable P (add h (takes term P d) (M .inputs) ns (M .numbers))) z
-      (line-taken P c s s′ Γ (takes term P d) (names term d s s′) (u .0) M h st (λ t v. Unit {0}) (λ a b. Unit {0}) [] (M .numbers) fi
+      (line-taken P c s s′ Γ (takes term P d) (names d s s′) (u .0) M h st (λ t v. Unit {0}) (λ a b. Unit {0}) [] (M .numbers) fi
       (subst⁻¹ (λ ns. Fed (λ a b. Unit {0}) ns (M .numbers) (M .numbers)) z refl)
       (rests d s s′ Γ (M .mem) h i st f e) (subst (λ xs. ¬ (exec c xs M ≡ refused full)) l n)))
 
   -- with values and numbers enough, what is not taken is a mismatch or full
   pub duty-unbroken : (d : Duty) (s s′ : Role) (Γ : Memory) (h : Stock) (M : Machine) → Stands P s Γ (M .mem) h → Fit term d s → next-role term P d s ≡ some s′
-      → Fed (λ t v. Unit {0}) (takes term P d) (M .inputs) [] → (n : ℕ) → length (M .numbers) ≡ length (names term d s s′) + n → Unbroken (exec c (line s s′) M)
+      → Fed (λ t v. Unit {0}) (takes term P d) (M .inputs) [] → (n : ℕ) → length (M .numbers) ≡ length (names d s s′) + n → Unbroken (exec c (line s s′) M)
   duty-unbroken d s s′ Γ h M st f e fi n many =
       let u = went-duty term P d s s′ Γ (st .good) f e in
-      let k = fed-enough (names term d s s′) (M .numbers) n many in
+      let k = fed-enough (names d s s′) (M .numbers) n many in
       subst⁻¹ (λ xs. Unbroken (exec c xs M)) (line-is P (u .0 .grew))
-      (line-unbroken P c s s′ Γ (takes term P d) (names term d s s′) (u .0) M h st (λ t v. Unit {0}) (λ a b. Unit {0}) [] (k .0) fi (k .1))
+      (line-unbroken P c s s′ Γ (takes term P d) (names d s s′) (u .0) M h st (λ t v. Unit {0}) (λ a b. Unit {0}) [] (k .0) fi (k .1))
 
   pub duty-whole : (d : Duty) (s s′ : Role) (Γ : Memory) (h : Stock) (M : Machine) → Stands P s Γ (M .mem) h → Fit term d s → next-role term P d s ≡ some s′
-      → (n : ℕ) → length (M .numbers) ≡ length (names term d s s′) + n → Whole (exec c (line s s′) M)
+      → (n : ℕ) → length (M .numbers) ≡ length (names d s s′) + n → Whole (exec c (line s s′) M)
   duty-whole d s s′ Γ h M st f e n many =
       let u = went-duty term P d s s′ Γ (st .good) f e in
-      let k = fed-enough (names term d s s′) (M .numbers) n many in
+      let k = fed-enough (names d s s′) (M .numbers) n many in
       subst⁻¹ (λ xs. Whole (exec c xs M)) (line-is P (u .0 .grew))
-      (line-whole P c s s′ Γ (takes term P d) (names term d s s′) (u .0) M h st (λ a b. Unit {0}) (k .0) (k .1))
+      (line-whole P c s s′ Γ (takes term P d) (names d s s′) (u .0) M h st (λ a b. Unit {0}) (k .0) (k .1))
 
   -- a say only builds
   pub duty-builds : (d : Duty) (s s′ : Role) (M : Machine) → T (to-say (turn-of d)) → next-role term P d s ≡ some s′ → No-mismatch (exec c (line s s′) M)
@@ -396,7 +396,7 @@ module _ (S : Specification) (c : Tree → ℕ) where
 
   -- the names still to be made are those of the stage, then the rest
   pub makes-first : (r : ℕ) (v : View) (a : Attends S r v) (st : Stage) (k : Comes S r v a st)
-      → length (all-makes (v .ahead)) ≡ length (names (message S) (k .duty) (a .role) (k .role′)) + length (all-makes (rest-of-stages (v .ahead)))
+      → length (all-makes (v .ahead)) ≡ length (names (k .duty) (a .role) (k .role′)) + length (all-makes (rest-of-stages (v .ahead)))
   makes-first r v a st k =
       ap (λ l. length (all-makes l)) (k .whole) ∙ length-append (st .makes) (all-makes (rest-of-stages (v .ahead)))
       ∙ ap (λ z. length (z .makes) + length (all-makes (rest-of-stages (v .ahead)))) (k .is)
@@ -418,13 +418,13 @@ module _ (S : Specification) (c : Tree → ℕ) where
         sheet = z .0;
         stands = z .1;
         says = every-join _ (v .said) _
-            (every-map _ _ (λ p d. derives-map P (Value-of (v .holdings)) _ (value-more (v .holdings) (takes (message S) P (k .duty)) vs (names (message S) (k .duty) (a .role) (k .role′)) ns) d) (v .said) (a .says))
+            (every-map _ _ (λ p d. derives-map P (Value-of (v .holdings)) _ (value-more (v .holdings) (takes (message S) P (k .duty)) vs (names (k .duty) (a .role) (k .role′)) ns) d) (v .said) (a .says))
             (z .2);
         knows = refl;
         there = inl (is-role r v a st k);
         living = living-on S r (a .role) (k .role′) vs ns (M′ .inputs) (M′ .numbers) (v .holdings) (k .duty) (k .later)
             (subst (λ l. Living S r (a .role) l (v .holdings)) (k .first) (a .living)) (k .fit) (k .programmed) (z .3) (z .4);
-        numbered = inr (numbers-left (length ns) (length (all-makes (v .ahead))) _ _ _ many (makes-first r v a st k) (fed-length (λ a k. Unit {0}) (names (message S) (k .duty) (a .role) (k .role′)) ns (M′ .numbers) (z .4)));
+        numbered = inr (numbers-left (length ns) (length (all-makes (v .ahead))) _ _ _ many (makes-first r v a st k) (fed-length (λ a k. Unit {0}) (names (k .duty) (a .role) (k .role′)) ns (M′ .numbers) (z .4)));
       }
 
   pub attends-on : (r : ℕ) (v : View) (a : Attends S r v) (st : Stage) → Comes S r v a st → (space : ℕ) (vs : List Tree) (ns : List ℕ) → length ns ≡ length (all-makes (v .ahead)) → (M′ : Machine)

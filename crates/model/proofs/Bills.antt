@@ -87,7 +87,7 @@ module _ (c : Tree → ℕ) (R : Tree → Tree) where
     finish s is ns [] = some (s, is, ns)
     finish s is ns (d ∷ ds) =
         elim (next-role term P d s) [
-          | some s′ ↦ finish s′ (is ++ takes term P d) (ns ++ names term d s s′) ds
+          | some s′ ↦ finish s′ (is ++ takes term P d) (ns ++ names d s s′) ds
           | nothing ↦ nothing
         ]
 
@@ -105,26 +105,26 @@ module _ (c : Tree → ℕ) (R : Tree → Tree) where
         → Whole-bill s is ns ds (cost term c R P s is ns ds) (finish s is ns ds)
     whole-bill [] s is ns w rd = omega arith
     whole-bill (d ∷ ds) s is ns w rd =
-        go (next-role term P d s) refl (rd .1) (λ s′ v r. whole-bill ds s′ (is ++ takes term P d) (ns ++ names term d s s′) v r)
+        go (next-role term P d s) refl (rd .1) (λ s′ v r. whole-bill ds s′ (is ++ takes term P d) (ns ++ names d s s′) v r)
       where
         go : (o : Option Role) → next-role term P d s ≡ o
             → elim o as (λ x. Type 0) [ some s′ ↦ Fitting term P s′ ds | nothing ↦ ⊥ ]
-            → ((s′ : Role) → Went P nobody-yet empty s′ None (is ++ takes term P d) (ns ++ names term d s s′) → Fitting term P s′ ds
-            → Whole-bill s′ (is ++ takes term P d) (ns ++ names term d s s′) ds (cost term c R P s′ (is ++ takes term P d) (ns ++ names term d s s′) ds)
-            (finish s′ (is ++ takes term P d) (ns ++ names term d s s′) ds))
+            → ((s′ : Role) → Went P nobody-yet empty s′ None (is ++ takes term P d) (ns ++ names d s s′) → Fitting term P s′ ds
+            → Whole-bill s′ (is ++ takes term P d) (ns ++ names d s s′) ds (cost term c R P s′ (is ++ takes term P d) (ns ++ names d s s′) ds)
+            (finish s′ (is ++ takes term P d) (ns ++ names d s s′) ds))
             → Whole-bill s is ns (d ∷ ds)
             (elim o as (λ x. ℕ) [
-              | some s′ ↦ line-cost c R s s′ (is ++ takes term P d) (ns ++ names term d s s′) + cost term c R P s′ (is ++ takes term P d) (ns ++ names term d s s′) ds
+              | some s′ ↦ line-cost c R s s′ (is ++ takes term P d) (ns ++ names d s s′) + cost term c R P s′ (is ++ takes term P d) (ns ++ names d s s′) ds
               | nothing ↦ 0
             ])
-            (elim o as (λ x. Option (Role × List Tree × List ℕ)) [ some s′ ↦ finish s′ (is ++ takes term P d) (ns ++ names term d s s′) ds | nothing ↦ nothing ])
+            (elim o as (λ x. Option (Role × List Tree × List ℕ)) [ some s′ ↦ finish s′ (is ++ takes term P d) (ns ++ names d s s′) ds | nothing ↦ nothing ])
         go nothing e x f = elim x [ ]
         go (some s′) e x f =
             let v = went-duty term P d s s′ (w .sheet) (w .good) (rd .0) e .0 in
-            bill-on (d ∷ ds) ds s s′ is (is ++ takes term P d) ns (ns ++ names term d s s′)
-            (line-cost c R s s′ (is ++ takes term P d) (ns ++ names term d s s′)) (cost term c R P s′ (is ++ takes term P d) (ns ++ names term d s s′) ds)
-            (line-bill P s s′ is (takes term P d) ns (names term d s s′) w v)
-            (finish s′ (is ++ takes term P d) (ns ++ names term d s s′) ds)
+            bill-on (d ∷ ds) ds s s′ is (is ++ takes term P d) ns (ns ++ names d s s′)
+            (line-cost c R s s′ (is ++ takes term P d) (ns ++ names d s s′)) (cost term c R P s′ (is ++ takes term P d) (ns ++ names d s s′) ds)
+            (line-bill P s s′ is (takes term P d) ns (names d s s′) w v)
+            (finish s′ (is ++ takes term P d) (ns ++ names d s s′) ds)
             (f s′ (went-then P w v) x)
 
     went-nowhere : Went P nobody-yet empty nobody-yet None [] []

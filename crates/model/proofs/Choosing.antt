@@ -13,13 +13,13 @@ use Rattle.model.specs.Lists.{Every, Some-of, firsts}
 use Rattle.model.specs.Trees.{Tree, leaf}
 use Rattle.model.specs.Deduction.{Party}
 use Rattle.model.specs.Roles.{Role}
-use Rattle.model.specs.Runs.{Memory, empty, Machine, ran, exec}
+use Rattle.model.specs.Runs.{Memory, empty, Machine, ran, exec, answer}
 use Rattle.model.specs.Readings.{reading-of}
 use Rattle.model.specs.Holdings.{Reads-as}
 use Rattle.model.specs.Specifications.{Duty, begin as to-start, speak, listen, Specification, message, own, duties}
-use Rattle.model.specs.Programs.{nobody-yet, line, answer, next-role, takes, names, Turn, begins, says-line, hears-line, Stage, turn-of, stage, stages-from, stages, Accepted}
+use Rattle.model.specs.Programs.{nobody-yet, line, next-role, takes, names, Turn, begins, says-line, hears-line, Stage, turn-of, stage, stages-from, stages, Accepted, all-actions, all-takes, all-makes}
 use Rattle.model.specs.Costs.{bills, sheet-of}
-use Rattle.model.specs.Sessions.{Outcome, ended, stopped, attempt, View, State, new-runs, Event, begin, say, hear, build, other, Answer, taken, declined, only, to-begin, to-say, to-hear, begins-next, in-turn, valid, gives, news, first-actions, all-actions, all-takes, all-makes, told, went-on, put, concluded, machine-for, tried, counts-right, handled, call, after}
+use Rattle.model.specs.Sessions.{Outcome, ended, stopped, attempt, View, State, new-runs, Event, begin, say, hear, build, other, Answer, taken, declined, only, to-begin, to-say, to-hear, begins-next, in-turn, valid, gives, news, first-actions, told, went-on, put, concluded, machine-for, tried, counts-right, handled, call, after}
 use Rattle.model.specs.SessionLaw.{Taken, Along, Starts-from, As-said, Unbuilt, program-cost, costs, Suffices, Fair, Not-refused, All-read, All-share}
 use Rattle.model.proofs.Tests.{and-both}
 use Rattle.model.proofs.Lists.{every-join, every-map, every-some}
@@ -133,10 +133,10 @@ module _ (S : Specification) (c : Tree → ℕ) (ρ : ℕ → Tree) where
       go : (o : Option Role) → elim o as (λ x. Type 0) [ some s′ ↦ Fitting (message S) P s′ ds | nothing ↦ ⊥ ]
           → Fed Names (all-makes (elim o as (λ x. List Stage) [ some s′ ↦ stage (message S) P d s s′ ∷ stages-from (message S) P s′ ds | nothing ↦ [] ])) ks []
           → ((s′ : Role) (ks′ : List ℕ) → Fitting (message S) P s′ ds → Fed Names (all-makes (stages-from (message S) P s′ ds)) ks′ [] → Ready (message S) c R P s′ ds ks′)
-          → elim o as (λ x. Type 0) [ some s′ ↦ (ks′ : List ℕ) × Fed Names (names (message S) d s s′) ks ks′ × Ready (message S) c R P s′ ds ks′ | nothing ↦ ⊥ ]
+          → elim o as (λ x. Type 0) [ some s′ ↦ (ks′ : List ℕ) × Fed Names (names d s s′) ks ks′ × Ready (message S) c R P s′ ds ks′ | nothing ↦ ⊥ ]
       go nothing x i k = elim x [ ]
       go (some s′) x i k =
-          let y = fed-split Names (names (message S) d s s′) (all-makes (stages-from (message S) P s′ ds)) ks [] i in
+          let y = fed-split Names (names d s s′) (all-makes (stages-from (message S) P s′ ds)) ks [] i in
           (y .0, y .1, k s′ (y .0) x (y .2))
 
   told-same : (d : Duty) (o : Option Tree) → told-of (message S) d o ≡ told (turn-of d) o
@@ -434,13 +434,13 @@ module _ (S : Specification) (c : Tree → ℕ) (ρ : ℕ → Tree) where
   finishes P (d ∷ ds) s Γ is ns g f = go (next-role (message S) P d s) refl (f .1) (λ s′ Δ is′ ns′. finishes P ds s′ Δ is′ ns′)
     where
       more-done : (s′ : Role) → s′ .acts ≡ s .acts ++ line s s′ → (o : Option (Role × List Tree × List ℕ))
-          → Finished s′ (is ++ takes (message S) P d) (ns ++ names (message S) d s s′) (stages-from (message S) P s′ ds) o
+          → Finished s′ (is ++ takes (message S) P d) (ns ++ names d s s′) (stages-from (message S) P s′ ds) o
           → Finished s is ns (stage (message S) P d s s′ ∷ stages-from (message S) P s′ ds) o
       more-done s′ e nothing h = h
       more-done s′ e (some z) h = (
         h .0 ∙ ap (λ l. l ++ all-actions (stages-from (message S) P s′ ds)) e ∙ append-assoc (s .acts) (line s s′) (all-actions (stages-from (message S) P s′ ds)),
         h .1 ∙ append-assoc is (takes (message S) P d) (all-takes (stages-from (message S) P s′ ds)),
-        h .2 ∙ append-assoc ns (names (message S) d s s′) (all-makes (stages-from (message S) P s′ ds)),
+        h .2 ∙ append-assoc ns (names d s s′) (all-makes (stages-from (message S) P s′ ds)),
       )
 
       go : (o : Option Role) → next-role (message S) P d s ≡ o → elim o as (λ x. Type 0) [ some s′ ↦ Fitting (message S) P s′ ds | nothing ↦ ⊥ ]
@@ -448,12 +448,12 @@ module _ (S : Specification) (c : Tree → ℕ) (ρ : ℕ → Tree) where
           → Finished s′ is′ ns′ (stages-from (message S) P s′ ds) (finish c R (message S) P s′ is′ ns′ ds))
           → Finished s is ns (elim o as (λ x. List Stage) [ some s′ ↦ stage (message S) P d s s′ ∷ stages-from (message S) P s′ ds | nothing ↦ [] ])
           (elim o as (λ x. Option (Role × List Tree × List ℕ))
-          [ some s′ ↦ finish c R (message S) P s′ (is ++ takes (message S) P d) (ns ++ names (message S) d s s′) ds | nothing ↦ nothing ])
+          [ some s′ ↦ finish c R (message S) P s′ (is ++ takes (message S) P d) (ns ++ names d s s′) ds | nothing ↦ nothing ])
       go nothing e x k = elim x [ ]
       go (some s′) e x k =
           let w = went-duty (message S) P d s s′ Γ g (f .0) e .0 in
           more-done s′ (w .grew .adds ∙ ap (λ l. s .acts ++ l) (sym (line-is P (w .grew)))) _
-          (k s′ (w .sheet) (is ++ takes (message S) P d) (ns ++ names (message S) d s s′) (w .good) x)
+          (k s′ (w .sheet) (is ++ takes (message S) P d) (ns ++ names d s s′) (w .good) x)
 
   module _ (acc : Accepted S) where
     role-cost : (r : ℕ) → cost (message S) c R (S .party r) nobody-yet [] [] (duties S r) ≡ program-cost S c R (stages S r)

@@ -8,11 +8,12 @@ use mathlib.Core.Path.{_≡_, refl, subst⁻¹}
 use native.Mathlib.Omega.{arith}
 use lib.Dec.{T}
 use Rattle.model.specs.Trees.{Head, Tree, leaf, node, Trees, none, more, _among_, size, sizes}
-use Rattle.model.specs.Deduction.{Party, may, Composes, known, compose as built}
+use Rattle.model.specs.Deduction.{Party, may}
 use Rattle.model.specs.Roles.{new, Entry, Role, find, fill, enter, Composed, got, lacks, Composed-all, got-all, lacks-one, and-then, put-together, compose, compose-all, knows, can, can-all}
 use Rattle.model.specs.Entries.{Has, Held}
 use Rattle.model.specs.Lives.{Fresh}
 use Rattle.model.proofs.Tests.{or-cases, or-left, or-right, and-both, and-left, and-right}
+use Rattle.model.proofs.Deduction.{Composes, known, compose as built}
 use Rattle.model.proofs.Entries.{entry, with-one, held-has, Found, found, knows-has, has-old, held-new, has-split}
 use Rattle.model.proofs.Growing.{Grows, stay, pass, join, grows-trans, grows-has, grows-all}
 

@@ -12,8 +12,8 @@ use Rattle.model.specs.Deduction.{Party}
 use Rattle.model.specs.Roles.{Act, give, new, hear, say, same, make, split, unlock, Role, fill, enter, meet, knows, settled, give-all, start, heard}
 use Rattle.model.specs.Runs.{Memory, empty, set}
 use Rattle.model.specs.Specifications.{Duty}
-use Rattle.model.specs.Programs.{nobody-yet, given, line, next-role, takes, names, Stage, stage, stages-from}
-use Rattle.model.specs.Sessions.{gives as count-gives, news as count-news, all-actions, all-makes}
+use Rattle.model.specs.Programs.{nobody-yet, given, line, next-role, takes, names, Stage, stage, stages-from, all-actions, all-makes}
+use Rattle.model.specs.Sessions.{gives as count-gives, news as count-news}
 use Rattle.model.proofs.Lists.{every-join, rest-append}
 use Rattle.model.proofs.Machine.{set-same}
 use Rattle.model.proofs.Sheets.{Move, gives, hears, news, says, sames, makes, splits, unlocks, Plan, done, then}
@@ -209,8 +209,8 @@ module _ (P : Party) where
       go nothing e x k = elim x [ ]
       go (some s′) e x k =
           let w = went-duty term P d s s′ Γ g (f .0) e .0 in
-          let a = line-news s s′ Γ (takes term P d) (names term d s s′) w in
+          let a = line-news s s′ Γ (takes term P d) (names d s s′) w in
           let b = k s′ (w .sheet) (w .good) x in
           let p = news-append (line s s′) (all-actions (stages-from term P s′ ds)) in
-          let q = length-append (names term d s s′) (all-makes (stages-from term P s′ ds)) in
+          let q = length-append (names d s s′) (all-makes (stages-from term P s′ ds)) in
           omega arith

@@ -1,4 +1,4 @@
--- A role's course: its lines, taken one after another, each on the memory that the one before left.
+-- What a line adds to a role's program, and what saying does.
 use Prim.Native.Nat.{ℕ}
 use mathlib.Core.Bool.{Bool}
 use mathlib.Core.List.{List, _++_}

@@ -3,7 +3,16 @@ use mathlib.Core.Logic.{inl}
 use mathlib.Core.Path.{refl}
 use lib.Dec.{T}
 use Rattle.model.specs.Trees.{Head, Tree, node, Trees, crypt, _among_}
-use Rattle.model.specs.Deduction.{Party, opens, Derives, held, build, part, text, Composes, known, compose, Saturated}
+use Rattle.model.specs.Deduction.{Party, may, opens, Derives, held, build, part, text}
+
+-- what can be put together from what is known, taking nothing apart
+pub data Composes (P : Party) (K : Tree → Type 0) : Tree → Type 0 where
+  known : {t : Tree} → K t → Composes P K t
+  compose : {h : Head} {ts : Trees} → T (may P h) → ((t : Tree) → t among ts → Composes P K t) → Composes P K (node h ts)
+
+pub record Saturated (P : Party) (K : Tree → Type 0) : Type 0 where
+  pub parts : (h : Head) (ts : Trees) (t : Tree) → K (node h ts) → T (opens P h) → t among ts → K t
+  pub texts : (t k : Tree) → K (crypt t k) → Composes P K k → K t
 
 module _ (P : Party) (H K : Tree → Type 0) (sat : Saturated P K) (all : (t : Tree) → H t → K t) where
   from-part : (h : Head) (ts : Trees) (t : Tree) → T (opens P h) → Composes P K (node h ts) → t among ts → Composes P K t

@@ -8,13 +8,13 @@ use mathlib.Core.Path.{_≡_, refl, ap, subst, sym, subst⁻¹}
 use native.Mathlib.Omega.{arith}
 use lib.Dec.{T}
 use Rattle.model.specs.Trees.{Head, crypted, Tree, leaf, node, Trees, none, more, crypt, _among_, Within, itself, inside}
-use Rattle.model.specs.Deduction.{Party, opens, Derives, held, build, Composes, known, compose as built, Saturated}
+use Rattle.model.specs.Deduction.{Party, opens, Derives, held, build}
 use Rattle.model.specs.Roles.{give, hear, say, Entry, Role, act, fill, enter, meet, Composed, got, lacks, compose, knows, can, settled, give-all, start, heard, Said, spoke, failed, say-composed, said}
 use Rattle.model.specs.Entries.{Has, Ascends, Once, Below}
 use Rattle.model.specs.Keeping.{Inv, Nobody, Kept}
 use Rattle.model.specs.Lives.{Life, starts, hears, says, OneOf, Passed, Holdings, New, Disciplined, after-hear, spoken, after-say, run}
 use Rattle.model.proofs.Trees.{within-trans, within-part}
-use Rattle.model.proofs.Deduction.{complete, derives-map}
+use Rattle.model.proofs.Deduction.{Composes, known, compose as built, Saturated, complete, derives-map}
 use Rattle.model.proofs.Entries.{entry, Keeps, held-has, knows-has, has-old, has-new}
 use Rattle.model.proofs.Growing.{Grows, stay, join, grows-has}
 use Rattle.model.proofs.Composing.{composes-bind, can-composes, composes-can, Base, Whole, Built, Good, good, joined-composes, joined-parts}

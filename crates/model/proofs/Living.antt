@@ -39,7 +39,7 @@ module _ (S : Specification) (r : ℕ) where
   Goes-on s s′ h vs ns vs′ ns′ [] = Unit {0}
   Goes-on s s′ h vs ns vs′ ns′ (d ∷ ds) =
       Fit (message S) d s → next-role (message S) P d s ≡ some s′ → Fed (λ t v. Unit {0}) (takes (message S) P d) vs vs′
-      → Fed (λ a k. Unit {0}) (names (message S) d s s′) ns ns′ → Living S r s′ ds (add h (takes (message S) P d) vs (names (message S) d s s′) ns)
+      → Fed (λ a k. Unit {0}) (names d s s′) ns ns′ → Living S r s′ ds (add h (takes (message S) P d) vs (names d s s′) ns)
 
   module _ (s s′ : Role) (vs : List Tree) (ns : List ℕ) (vs′ : List Tree) (ns′ : List ℕ) where
     from-start : (xs : List Duty) → xs ≡ duties S r → Goes-on s s′ nothing-held vs ns vs′ ns′ xs

@@ -9,11 +9,12 @@ use native.Mathlib.Omega.{arith}
 use lib.Dec.{T}
 use Rattle.model.specs.Lists.{Every}
 use Rattle.model.specs.Trees.{Head, tupled, crypted, applied, Tree, leaf, node, Trees, none, crypt, _among_, size}
-use Rattle.model.specs.Deduction.{Party, opens, Saturated}
+use Rattle.model.specs.Deduction.{Party, opens}
 use Rattle.model.specs.Roles.{Entry, Role, due-parts, due, first-due, settle, settle-all, unsettled, settled}
 use Rattle.model.specs.Entries.{Has}
 use Rattle.model.specs.Keeping.{shown, Done, DoneAt, Nobody, Kept}
 use Rattle.model.proofs.Tests.{or-left, and-left}
+use Rattle.model.proofs.Deduction.{Saturated}
 use Rattle.model.proofs.Entries.{Keeps, every-both}
 use Rattle.model.proofs.Composing.{composes-can, Whole}
 use Rattle.model.proofs.Marking.{Is}

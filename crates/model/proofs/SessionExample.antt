@@ -11,9 +11,9 @@ use Rattle.model.specs.Trees.{crypted, applied, Tree, leaf, node, none, more, 
 use Rattle.model.specs.Roles.{Act, give, new, hear as hear-it, say as say-it, same, make, unlock, compose, can, due-parts, due, first-due, open-parts, open-text, check-again, settle-node, settle, settle-all, unsettled, settled, give-all, start, heard, said}
 use Rattle.model.specs.Readings.{reading-of}
 use Rattle.model.specs.Specifications.{Specification, message, duties}
-use Rattle.model.specs.Programs.{nobody-yet, hears-line, stages, Sayable, Accepted}
+use Rattle.model.specs.Programs.{nobody-yet, hears-line, stages, Sayable, Accepted, all-actions}
 use Rattle.model.specs.Costs.{sheet-of}
-use Rattle.model.specs.Sessions.{new-runs, Event, begin, say, hear, build, other, Answer, taken, declined, outside, all-actions, after, answers}
+use Rattle.model.specs.Sessions.{new-runs, Event, begin, say, hear, build, other, Answer, taken, declined, outside, after, answers}
 use Rattle.model.specs.SessionLaw.{costs, Fair, All-share}
 use Rattle.model.proofs.SessionLaw.{session-law}
 

@@ -7,12 +7,13 @@ use mathlib.Core.Path.{_≡_, refl, ap, subst, subst⁻¹}
 use native.Mathlib.Omega.{arith}
 use lib.Dec.{T, not-T}
 use Rattle.model.specs.Trees.{Head, tupled, crypted, applied, Tree, leaf, node, Trees, none, more, crypt, _among_, size, sizes}
-use Rattle.model.specs.Deduction.{Party, opens, Derives, part, text, Composes}
+use Rattle.model.specs.Deduction.{Party, opens, Derives, part, text}
 use Rattle.model.specs.Roles.{split, unlock, Entry, Role, fill, Composed, got, lacks, Composed-all, got-all, lacks-one, compose, compose-all, none-made, meet-all, count, mark, marked, due-parts, due, open-parts, open-text, check-again, settle-node, settle, unsettled}
 use Rattle.model.specs.Entries.{Has}
 use Rattle.model.specs.Keeping.{Done, DoneAt, Inv, Nobody, Kept}
 use Rattle.model.proofs.Tests.{and-left, and-right}
 use Rattle.model.proofs.Lists.{every-map}
+use Rattle.model.proofs.Deduction.{Composes}
 use Rattle.model.proofs.Entries.{Keeps, held-has}
 use Rattle.model.proofs.Growing.{Grows, stay, pass, join, grows-has}
 use Rattle.model.proofs.Composing.{composes-map, can-composes, Base, Whole, Built, Good, Good-all, good, good-all}

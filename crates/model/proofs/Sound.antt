@@ -8,13 +8,13 @@ use mathlib.Core.Path.{_≡_, refl, ap, subst, sym, _∙_}
 use lib.Dec.{T}
 use Rattle.model.specs.Lists.{Every}
 use Rattle.model.specs.Trees.{Head, tupled, crypted, applied, Tree, leaf, node, Trees, none, more, _among_, map-trees}
-use Rattle.model.specs.Deduction.{Party, may, Derives, Composes, Saturated}
+use Rattle.model.specs.Deduction.{Party, may, Derives}
 use Rattle.model.specs.Roles.{Entry, Role, find, can, can-all, due-parts, due}
 use Rattle.model.specs.Entries.{Has, Held, Once, At-rest}
 use Rattle.model.specs.Runs.{Memory, reads}
 use Rattle.model.specs.Readings.{Open-to, shows, unlocks, rebuilds, Reading}
 use Rattle.model.proofs.Tests.{or-left, or-right, and-both}
-use Rattle.model.proofs.Deduction.{complete}
+use Rattle.model.proofs.Deduction.{Composes, Saturated, complete}
 use Rattle.model.proofs.Entries.{held-has, Found, found}
 use Rattle.model.proofs.Composing.{composes-can}
 use Rattle.model.proofs.Resting.{saturated}

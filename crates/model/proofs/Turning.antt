@@ -9,11 +9,12 @@ use native.Mathlib.Omega.{arith}
 use lib.Dec.{T, eqb, eqb→eq, not-T}
 use Rattle.model.specs.Lists.{Every}
 use Rattle.model.specs.Trees.{Head, tupled, crypted, applied, Tree, leaf, node, Trees, none, more, crypt, _among_}
-use Rattle.model.specs.Deduction.{Party, may, opens, Composes}
+use Rattle.model.specs.Deduction.{Party, may, opens}
 use Rattle.model.specs.Roles.{Act, same, make, split, unlock, Entry, Role, act, fill, meet, Composed, got, lacks, Composed-all, got-all, lacks-one, compose, compose-all, none-made, meet-all, count, mark, marked, can-all, due-parts, due, first-due, open-parts, open-text, check-again, settle-node, settle, settle-all, unsettled, settled}
 use Rattle.model.specs.Entries.{Has, Held}
 use Rattle.model.specs.Runs.{Memory, set, puts, reads}
 use Rattle.model.proofs.Tests.{or-cases, and-left as first, and-right as second}
+use Rattle.model.proofs.Deduction.{Composes}
 use Rattle.model.proofs.Entries.{every-both}
 use Rattle.model.proofs.Composing.{composes-map, can-composes, can-all-composes, Base, Good as Sound-one, Good-all as Sound-all, good, good-all}
 use Rattle.model.proofs.Marking.{Is, is-every, has-mark, mark-every, mark-ascends, mark-once}
