@@ -33,7 +33,7 @@ use Rattle.model.proofs.Standing.{value-more, Stands, stands-nobody, line-afte
 use Rattle.model.proofs.Courses.{line-is}
 use Rattle.model.proofs.Actors.{answer-last, Fit, Told, went-duty, Fitting}
 use Rattle.model.proofs.Speaking.{said-builds, No-mismatch, builds-fit}
-use Rattle.model.proofs.Specifications.{Is-line, own-lines}
+use Rattle.model.proofs.Duties.{Is-line, own-lines}
 use Rattle.model.proofs.Living.{Living, living-on, living-holds}
 use Rattle.model.proofs.Counts.{stages-news}
 

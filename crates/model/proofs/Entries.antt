@@ -89,3 +89,8 @@ once-one (x ∷ es) e o n = (apart, once-one es e (o .1) (λ h. n (inr h)))
   where
     apart : ¬ Has (with-one es e) (x .term)
     apart h = elim (has-split es e (x .term) h) [ inl k ↦ o .0 k | inr p ↦ n (inl (sym p)) ]
+
+-- what holds of every term that the list has
+pub has-every : (X : Tree → Type 0) (es : List Entry) → ((u : Tree) → Has es u → X u) → Every (λ e. X (e .term)) es
+has-every X [] f = tt
+has-every X (e ∷ es) f = (f (e .term) (inl refl), has-every X es (λ u h. f u (inr h)))

@@ -1,22 +1,24 @@
 -- A role's life: it starts, hears and says. Saying succeeds exactly where the term is derivable.
 use Prim.Native.Nat.{ℕ}
-use mathlib.Core.Bool.{Bool, true, false, cond}
+use mathlib.Core.Bool.{Bool, true, false, not, cond, _&&_}
 use mathlib.Core.List.{List, [], _∷_}
 use mathlib.Core.Logic.{_⊎_, inl, inr, _↔_}
 use mathlib.Core.Option.{Option, none as nothing, some}
 use mathlib.Core.Path.{_≡_, refl, ap, subst, sym, subst⁻¹}
 use native.Mathlib.Omega.{arith}
-use lib.Dec.{T}
-use Rattle.model.specs.Trees.{Head, crypted, Tree, leaf, node, Trees, none, more, crypt, _among_, Within, itself, inside}
-use Rattle.model.specs.Deduction.{Party, opens, Derives, held, build}
-use Rattle.model.specs.Roles.{give, hear, say, Entry, Role, act, fill, enter, meet, Composed, got, lacks, compose, knows, can, settled, give-all, start, heard, Said, spoke, failed, say-composed, said}
-use Rattle.model.specs.Entries.{Has, Ascends, Once, Below}
+use lib.Dec.{T, T-not}
+use Rattle.model.specs.Lists.{Every}
+use Rattle.model.specs.Trees.{Head, tupled, crypted, applied, Tree, leaf, node, Trees, none, more, crypt, _among_, Within, itself, inside}
+use Rattle.model.specs.Deduction.{Party, may, opens, Derives, held, build}
+use Rattle.model.specs.Roles.{give, hear, say, Entry, Role, act, fill, enter, meet, Composed, got, lacks, compose, knows, can, can-all, due-parts, due, settled, give-all, start, heard, Said, spoke, failed, say-composed, said}
+use Rattle.model.specs.Entries.{Has, Ascends, Once, Below, At-rest}
 use Rattle.model.specs.Keeping.{Inv, Nobody, Kept}
 use Rattle.model.specs.Lives.{Life, starts, hears, says, OneOf, Passed, Holdings, New, Disciplined, after-hear, spoken, after-say, run}
+use Rattle.model.proofs.Tests.{or-cases, or-left, or-right, and-both, and-left, and-right}
 use Rattle.model.proofs.Trees.{within-trans, within-part}
 use Rattle.model.proofs.Deduction.{Composes, known, compose as built, Saturated, complete, derives-map}
-use Rattle.model.proofs.Entries.{entry, Keeps, held-has, knows-has, has-old, has-new}
-use Rattle.model.proofs.Growing.{Grows, stay, join, grows-has}
+use Rattle.model.proofs.Entries.{entry, Keeps, held-has, knows-has, has-old, has-new, every-both, has-every}
+use Rattle.model.proofs.Growing.{Grows, stay, join, grows-has, grows-every}
 use Rattle.model.proofs.Composing.{composes-bind, can-composes, composes-can, Base, Whole, Built, Good, good, joined-composes, joined-parts}
 use Rattle.model.proofs.Keeping.{Met, Welcome, inv-built, inv-met, Meets, meets}
 use Rattle.model.proofs.Resting.{settled-rests, settled-saturated}
@@ -38,11 +40,12 @@ kept-more P H H′ S S′ f g s v = record {
   done = v .done;
 }
 
--- what a state has of a life: the list is kept, has all that is held, and is saturated
+-- what a state has of a life: the list is kept, has all that is held, is saturated, and nothing of it is due
 pub record Lived (P : Party) (l : Life) (s : Role) : Type 0 where
   pub inv : Kept P (Holdings l) (Seen l) s
   pub all : (u : Tree) → Holdings l u → Has (s .known) u
   pub sat : Saturated P (Has (s .known))
+  pub rest : At-rest P s
 
 -- the givens are entered, each once
 record Gave (P : Party) (H S : Tree → Type 0) (ts : List Tree) (s s′ : Role) : Type 0 where
@@ -86,7 +89,7 @@ module _ (P : Party) where
   settle-lived : (l : Life) (s : Role) → Kept P (Holdings l) (Seen l) s → ((u : Tree) → Holdings l u → Has (s .known) u) → Lived P l (settled P s)
   settle-lived l s v a =
       let k = settled-rests P (Holdings l) (Seen l) (seen-whole l) s v in
-      record { inv = k .inv; all = λ u h. k .keeps u (a u h); sat = settled-saturated P (Holdings l) (Seen l) (seen-whole l) s v }
+      record { inv = k .inv; all = λ u h. k .keeps u (a u h); sat = settled-saturated P (Holdings l) (Seen l) (seen-whole l) s v; rest = k .none-due }
 
   lived-start : (ts : List Tree) → Lived P (starts ts) (start P ts)
   unfolding start
@@ -239,8 +242,56 @@ module _ (P : Party) (l : Life) (s : Role) (v : Lived P l s) (makes : ℕ → Bo
       texts : (u k : Tree) → Has fs (crypt u k) → Composes P (Has fs) k → Has fs u
       texts u k h c = elim (joined-parts P makes S g crypted (more u (more k none)) h) [ inl x ↦ keeps u (opened-before u k x (before c)) | inr f ↦ f u (inl refl) ]
 
+  -- what is due after the say was due before: the names made now stand in no key, and in no part, of what was known
+  composed-before : {fs : List Entry} {m : ℕ} → Became P l makes t s fs m → (u : Tree) → Seen l u → T (can P u fs) → T (can P u (s .known))
+  composed-before {fs = fs} g u x c =
+      composes-can P (s .known) (strip (not-before u x)
+      (composes-bind P (Has fs) (Source l makes t s) (joined-composes P makes (Seen (says l makes t)) g) (can-composes P fs u c)))
+
+  all-before : {fs : List Entry} {m : ℕ} → Became P l makes t s fs m → (us : Trees) → ((u : Tree) → u among us → Seen l u) → T (can-all P us fs) → T (can-all P us (s .known))
+  unfolding can
+  all-before g none x c = tt
+  all-before {fs = fs} g (more u us) x c =
+      and-both (can P u (s .known)) (can-all P us (s .known)) (composed-before g u (x u (inl refl)) (and-left (can P u fs) (can-all P us fs) c))
+      (all-before g us (λ v i. x v (inr i)) (and-right (can P u fs) (can-all P us fs) c))
+
+  due-before : {fs : List Entry} {m : ℕ} → Became P l makes t s fs m → (h : Head) (us : Trees) → Seen l (node h us) → T (due-parts P h us fs) → T (due-parts P h us (s .known))
+  unfolding due-parts
+  due-before g tupled us x d = tt
+  due-before {fs = fs} g (applied f) us x d =
+      elim (or-cases (not (P .one-way f)) (may P (applied f) && can-all P us fs) d) [
+        | inl o ↦ or-left (not (P .one-way f)) (may P (applied f) && can-all P us (s .known)) o
+        | inr c ↦ or-right (not (P .one-way f)) (may P (applied f) && can-all P us (s .known))
+            (and-both (may P (applied f)) (can-all P us (s .known)) (and-left (may P (applied f)) (can-all P us fs) c)
+            (all-before g us (seen-whole l (applied f) us x) (and-right (may P (applied f)) (can-all P us fs) c)))
+      ]
+  due-before g crypted none x d = d
+  due-before g crypted (more u none) x d = d
+  due-before g crypted (more u (more k none)) x d = composed-before g k (seen-whole l crypted (more u (more k none)) x k (inr (inl refl))) d
+  due-before g crypted (more u (more k (more w ws))) x d = d
+
+  rest-after : {fs : List Entry} {m : ℕ} → Became P l makes t s fs m → Every (λ e. ¬ T (due P fs e)) fs
+  unfolding due
+  rest-after {fs = fs} g =
+      grows-every (Built P makes (Seen (says l makes t))) (λ e. ¬ T (due P fs e)) fs (λ gs e f b. joined e (b .0)) g
+      (every-both (λ e. ¬ T (due P (s .known) e)) (λ e. Seen l (e .term)) (λ e. ¬ T (due P fs e)) old (s .known) (v .rest) (has-every (Seen l) (s .known) (v .inv .seen)))
+      (λ u h. h)
+    where
+      -- what joined is settled
+      joined : (e : Entry) → T (e .settled) → ¬ T (due P fs e)
+      joined e b d = T-not (e .settled) (and-left (not (e .settled)) _ d) b
+
+      old : (e : Entry) → ¬ T (due P (s .known) e) → Seen l (e .term) → ¬ T (due P fs e)
+      old e n x d = go (e .settled) (e .term) n x d
+        where
+          go : (b : Bool) (u : Tree) → ¬ T (not b && elim u [ leaf n ↦ false | node h ts ↦ due-parts P h ts (s .known) ]) → Seen l u
+              → ¬ T (not b && elim u [ leaf n ↦ false | node h ts ↦ due-parts P h ts fs ])
+          go true u n x d = d
+          go false (leaf a) n x d = d
+          go false (node h us) n x d = n (due-before g h us x d)
+
   lived-say : (s′ : Role) (r : ℕ) → Good P makes (Seen (says l makes t)) s t (got s′ r) → Lived P (says l makes t) s′
-  lived-say s′ r g = record { inv = inv-after (g .0); all = all; sat = saturated-after (g .0) }
+  lived-say s′ r g = record { inv = inv-after (g .0); all = all; sat = saturated-after (g .0); rest = rest-after (g .0) }
     where
       all : (u : Tree) → Holdings (says l makes t) u → Has (s′ .known) u
       all u (inl h) = grows-has (Built P makes (Seen (says l makes t))) (g .0) u (v .all u h)
@@ -281,7 +332,7 @@ lived-to P (says l makes t) d = go (run P l) (lived-to P l (d .0))
   where
     -- the action `say` changes neither the list nor the next register
     ended : (s s′ : Role) (r : ℕ) → Lived P (says l makes t) s′ → Lived P (says l makes t) (act (say r) s′)
-    ended s s′ r k = record { inv = k .inv; all = k .all; sat = k .sat }
+    ended s s′ r k = record { inv = k .inv; all = k .all; sat = k .sat; rest = k .rest }
 
     come : (s : Role) → Lived P l s → (c : Composed) → Good P makes (Seen (says l makes t)) s t c → LivedTo P (says l makes t) (spoken (say-composed c))
     come s v (got s′ r) g = ended s s′ r (lived-say P l s v makes (d .1) t s′ r g)

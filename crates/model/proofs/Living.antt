@@ -21,8 +21,8 @@ use Rattle.model.proofs.Standing.{fed-firsts}
 use Rattle.model.proofs.Scripts.{Script, started, hearing, saying}
 use Rattle.model.proofs.Actors.{Fit}
 use Rattle.model.proofs.Linked.{some-firsts, script-holdings}
-use Rattle.model.proofs.Specifications.{Is-line, own-lines, disciplined}
-use Rattle.model.proofs.Deducible.{disciplined-before}
+use Rattle.model.proofs.Duties.{Is-line, own-lines, disciplined-before}
+use Rattle.model.proofs.Names.{disciplined}
 
 -- not begun, or in the midst of the role's life
 abbrev pub Living : Specification → ℕ → Role → List Duty → Stock → Type 0

@@ -1,4 +1,4 @@
--- What a refused call leaves: every run as it was, and no more space than before; nothing at all is altered out of turn or by wrong counts.
+-- The law of refusals, proved: what one action, a stage and a call leave.
 use Prim.Native.Nat.{ℕ, suc, _-_, _≤_}
 use mathlib.Core.Bool.{Bool, true, false, _&&_, cond}
 use mathlib.Core.List.{List, [], _∷_}
@@ -12,7 +12,8 @@ use Rattle.model.specs.Roles.{Act, give, new, hear as hear-it, say as say-it, 
 use Rattle.model.specs.Runs.{reads, Fault, mismatch, full, invalid, broken, Machine, Result, ran, refused, need, need-all, check, take-input, pay, take-number, open-up, open-crypt, step}
 use Rattle.model.specs.Programs.{Stage}
 use Rattle.model.specs.Sessions.{Outcome, ended, stopped, attempt, State, Event, begin, say, hear, build, other, Answer, taken, declined, number-of, in-turn, valid, concluded, machine-for, tried, counts-right, handled, call}
-use Rattle.model.specs.SessionLaw.{Taken, Refused, answered}
+use Rattle.model.specs.SessionLaw.{Taken, Refused}
+use Rattle.model.specs.RefusalLaw.{Refusal-law}
 
 -- no action raises the space
 abbrev Falls : ℕ → Result → Type 0
@@ -82,12 +83,12 @@ attempt-falls c (a ∷ rest) k M = go (step c a M) (step-falls c a M) (λ N. att
     go (refused e) h f = omega arith
 
 -- what a call leaves, by its answer
-record Leaves (s : State) (x : State × Answer) : Type 0 where
+record Left (s : State) (x : State × Answer) : Type 0 where
   less : x .0 .space ≤ s .space
   keeps : ¬ Taken (x .1) → x .0 .views ≡ s .views
   unaltered : Refused 11 (x .1) ⊎ Refused 13 (x .1) → x .0 ≡ s
 
-same-leaves : (s : State) (a : Answer) → Leaves s (s, a)
+same-leaves : (s : State) (a : Answer) → Left s (s, a)
 same-leaves s a = record { less = omega arith; keeps = λ n. refl; unaltered = λ h. refl }
 
 fault-number : (s t : State) (f : Fault) (k : ℕ) → Refused 11 (declined (number-of f) k) ⊎ Refused 13 (declined (number-of f) k) → t ≡ s
@@ -96,46 +97,40 @@ fault-number s t full k h = absurd (elim h [ inl p ↦ omega arith | inr p ↦ o
 fault-number s t invalid k h = absurd (elim h [ inl p ↦ omega arith | inr p ↦ omega arith ])
 fault-number s t broken k h = absurd (elim h [ inl p ↦ omega arith | inr p ↦ omega arith ])
 
-tried-leaves : (c : Tree → ℕ) (r : ℕ) (st : Stage) (vs : List Tree) (ns : List ℕ) (s : State) → Leaves s (tried c r st vs ns s)
+tried-leaves : (c : Tree → ℕ) (r : ℕ) (st : Stage) (vs : List Tree) (ns : List ℕ) (s : State) → Left s (tried c r st vs ns s)
 tried-leaves c r st vs ns s =
     go (attempt c (st .actions) (s .views r .done) (machine-for r vs ns s)) (attempt-falls c (st .actions) (s .views r .done) (machine-for r vs ns s))
   where
-    go : (x : Outcome) → space-left x ≤ s .space → Leaves s (concluded r st vs ns s x)
+    go : (x : Outcome) → space-left x ≤ s .space → Left s (concluded r st vs ns s x)
     go (ended M) h = record { less = h; keeps = λ n. absurd (n tt); unaltered = elim [ inl p ↦ absurd p | inr p ↦ absurd p ] }
     go (stopped f k n) h = record { less = h; keeps = λ n. refl; unaltered = fault-number s (record { space = n; views = s .views }) f k }
 
-call-leaves : (c : Tree → ℕ) (s : State) (e : Event) → Leaves s (call c s e)
+call-leaves : (c : Tree → ℕ) (s : State) (e : Event) → Left s (call c s e)
 call-leaves c s (begin r hs ns) = go (in-turn s (begin r hs ns))
   where
-    one : (st : Stage) (b : Bool) → Leaves s (cond b (tried c r st (valid hs) ns s) (s, declined 13 (s .views r .done)))
+    one : (st : Stage) (b : Bool) → Left s (cond b (tried c r st (valid hs) ns s) (s, declined 13 (s .views r .done)))
     one st true = tried-leaves c r st (valid hs) ns s
     one st false = same-leaves s _
 
-    go : (o : Option Stage) → Leaves s (handled c s (begin r hs ns) o)
+    go : (o : Option Stage) → Left s (handled c s (begin r hs ns) o)
     go nothing = same-leaves s _
     go (some st) = one st (counts-right (s .views r .ahead) hs ns)
 call-leaves c s (say r) = go (in-turn s (say r))
   where
-    go : (o : Option Stage) → Leaves s (handled c s (say r) o)
+    go : (o : Option Stage) → Left s (handled c s (say r) o)
     go nothing = same-leaves s _
     go (some st) = tried-leaves c r st [] (s .views r .numbers) s
 call-leaves c s (hear r h) = go (in-turn s (hear r h))
   where
-    go : (o : Option Stage) → Leaves s (handled c s (hear r h) o)
+    go : (o : Option Stage) → Left s (handled c s (hear r h) o)
     go nothing = same-leaves s _
     go (some st) = tried-leaves c r st (valid (h ∷ [])) (s .views r .numbers) s
 call-leaves c s (build v) = go (leb (c v) (s .space))
   where
-    go : (b : Bool) → Leaves s (cond b (record { space = s .space - c v; views = s .views }, taken nothing) (s, declined 15 0))
+    go : (b : Bool) → Left s (cond b (record { space = s .space - c v; views = s .views }, taken nothing) (s, declined 15 0))
     go true = record { less = omega arith; keeps = λ n. refl; unaltered = elim [ inl p ↦ absurd p | inr p ↦ absurd p ] }
     go false = same-leaves s _
 call-leaves c s other = same-leaves s _
 
-pub space-falls : (c : Tree → ℕ) (s : State) (e : Event) → call c s e .0 .space ≤ s .space
-space-falls c s e = call-leaves c s e .less
-
-pub refused-keeps : (c : Tree → ℕ) (s : State) (e : Event) → ¬ Taken (answered c s e) → call c s e .0 .views ≡ s .views
-refused-keeps c s e = call-leaves c s e .keeps
-
-pub refused-unaltered : (c : Tree → ℕ) (s : State) (e : Event) → Refused 11 (answered c s e) ⊎ Refused 13 (answered c s e) → call c s e .0 ≡ s
-refused-unaltered c s e = call-leaves c s e .unaltered
+pub refusal-law : Refusal-law
+refusal-law c s e = let x = call-leaves c s e in record { space-falls = x .less; runs-kept = x .keeps; unaltered = x .unaltered }
