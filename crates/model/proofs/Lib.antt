@@ -41,6 +41,6 @@ pub mod Answering
 pub mod Choosing
 pub mod RefusalLaw
 pub mod SessionLaw
-pub mod Examples
-pub mod RunExamples
-pub mod SessionExample
+pub mod WorkedExamples
+pub mod Narration
+pub mod NewNames
