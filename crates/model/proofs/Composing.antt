@@ -73,6 +73,10 @@ Base makes S es u = Has es u ⊎ Fresh makes S u
 abbrev pub Whole : (Tree → Type 0) → Type 0
 Whole S = (h : Head) (ts : Trees) → S (node h ts) → (u : Tree) → u among ts → S u
 
+-- every tree
+abbrev pub Any-tree : Tree → Type 0
+Any-tree t = Unit {0}
+
 -- what joins in composing: settled, within `S`, and made of the list
 abbrev pub Built : Party → (ℕ → Bool) → (Tree → Type 0) → List Entry → Entry → Type 0
 Built P makes S es e = T (e .settled) × S (e .term) × Makable P makes es (e .term)
@@ -81,7 +85,7 @@ Built P makes S es e = T (e .settled) × S (e .term) × Makable P makes es (e .t
 abbrev pub Small : List Entry → List Entry → ℕ → Type 0
 Small es fs k = (u : Tree) → Has fs u → Has es u ⊎ (size u ≤ k)
 
-small-one : (es fs : List Entry) (e : Entry) (k : ℕ) → size (e .term) ≤ k → Small es fs k → Small es (with-one fs e) k
+pub small-one : (es fs : List Entry) (e : Entry) (k : ℕ) → size (e .term) ≤ k → Small es fs k → Small es (with-one fs e) k
 small-one es fs e k l f u h =
     elim (has-split fs e u h) [
       | inl a ↦ f u a

@@ -16,7 +16,7 @@ use Rattle.model.specs.Runs.{Memory, set, puts, reads}
 use Rattle.model.specs.Programs.{leaf-of, leaves}
 use Rattle.model.proofs.Lists.{every-join}
 use Rattle.model.proofs.Entries.{entry, with-one, Found, found, has-split}
-use Rattle.model.proofs.Composing.{Small}
+use Rattle.model.proofs.Composing.{Small, small-one}
 use Rattle.model.proofs.Machine.{set-same, set-other, puts-below, all-set, all-puts, Below, below-set, below-puts, _⊑_, ⊑-set, ⊑-puts, reads-parts, reads-more, ⊑-reads, regs}
 use Rattle.model.proofs.Sheets.{Move, news, sames, makes, Plan, done, then, plan-append, plan-keeps, facts-right}
 use Rattle.model.proofs.Grounds.{Explained, Good, held-every, good-act, good-enter, good-meet, meet-next}
@@ -128,13 +128,6 @@ module _ (P : Party) (may-make : ℕ → Bool) (X : ℕ → Type 0) where
   made-known : (s : Role) (Γ : Memory) (t : Tree) (r : ℕ) → Good s Γ (s .next) X → Held (s .known) t r → Made s Γ t (got s r)
   made-known s Γ t r g h =
       ([], record { sheet = Γ; good = g; grew = grew-none P s Γ }, held-every (λ u q. Γ q ≡ some u) (s .known) (g .entries) t r h, (λ u k. inl k), tt, sym (append-nil (leaves (s .known))))
-
-  small-one : (es fs : List Entry) (e : Entry) (k : ℕ) → size (e .term) ≤ k → Small es fs k → Small es (with-one fs e) k
-  small-one es fs e k l f u h =
-      elim (has-split fs e u h) [
-        | inl a ↦ f u a
-        | inr p ↦ inr (subst⁻¹ (λ v. size v ≤ k) p l)
-      ]
 
   -- a name that is made
   made-name : (s : Role) (Γ : Memory) (n : ℕ) → Good s Γ (s .next) X → ¬ Has (s .known) (leaf n) → (b : Bool) → (T b → T (may-make n))

@@ -17,6 +17,7 @@ use Rattle.model.specs.Runs.{Memory, empty, set}
 use Rattle.model.specs.Programs.{leaves, terms, nobody-yet, given}
 use Rattle.model.proofs.Lists.{every-map}
 use Rattle.model.proofs.Entries.{entry, with-one, held-has, knows-has}
+use Rattle.model.proofs.Composing.{Any-tree}
 use Rattle.model.proofs.Keeping.{shown-among}
 use Rattle.model.proofs.Resting.{settled-rests}
 use Rattle.model.proofs.Machine.{no-some, set-same, All}
@@ -58,15 +59,12 @@ module _ (P : Party) where
       every-map (λ e. T (e .settled) → None (e .at) ⊎ Explained Γ (s .acts) (e .at) (e .term)) (DoneAt P Nobody (s .known))
       (λ e f c. elim (f c) [ inl x ↦ absurd x | inr y ↦ inr (explained-done s Γ g (e .at) (e .term) y) ]) (s .known) (g .explained)
 
-  abbrev Whatever : Tree → Type 0
-  Whatever t = Unit {0}
-
-  good-inv : (s : Role) (Γ : Memory) → Good s Γ (s .next) None → Inv P Whatever Whatever Nobody (s .known) (s .next)
+  good-inv : (s : Role) (Γ : Memory) → Good s Γ (s .next) None → Inv P Any-tree Any-tree Nobody (s .known) (s .next)
   good-inv s Γ g =
       record { below = g .low; ascends = g .ascends; once = g .once; sound = λ u h. held tt; seen = λ u h. tt; done = good-done-at s Γ g }
 
   pub settled-at-rest : (s : Role) (Γ : Memory) → Good s Γ (s .next) None → At-rest P (settled P s)
-  settled-at-rest s Γ g = settled-rests P Whatever Whatever (λ h ts i u j. tt) s (good-inv s Γ g) .none-due
+  settled-at-rest s Γ g = settled-rests P Any-tree Any-tree (λ h ts i u j. tt) s (good-inv s Γ g) .none-due
 
   -- to hear
   pub went-heard : (t : Tree) (s : Role) (Γ : Memory) → Good s Γ (s .next) None → Formed t → Went P s Γ (heard P t s) None (t ∷ []) [] × At-rest P (heard P t s)

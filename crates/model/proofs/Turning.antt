@@ -16,7 +16,7 @@ use Rattle.model.specs.Runs.{Memory, set, puts, reads}
 use Rattle.model.proofs.Tests.{or-cases, and-left as first, and-right as second}
 use Rattle.model.proofs.Deduction.{Composes}
 use Rattle.model.proofs.Entries.{every-both}
-use Rattle.model.proofs.Composing.{composes-map, can-composes, can-all-composes, Base, Good as Sound-one, Good-all as Sound-all, good, good-all}
+use Rattle.model.proofs.Composing.{Any-tree, composes-map, can-composes, can-all-composes, Base, Good as Sound-one, Good-all as Sound-all, good, good-all}
 use Rattle.model.proofs.Marking.{Is, is-every, has-mark, mark-every, mark-ascends, mark-once}
 use Rattle.model.proofs.Resting.{FirstDue, first-is}
 use Rattle.model.proofs.Machine.{⊑-puts, some-inj, set-same, ⊑-set, reads-more, ⊑-reads, regs, reads-puts, regs-count}
@@ -253,9 +253,6 @@ module _ (P : Party) where
   turn-again r h ts s Γ g e p (lacks-one u) m y = elim y [ ]
 
   -- what can be composed is composed
-  abbrev Any-tree : Tree → Type 0
-  Any-tree t = Unit {0}
-
   succeeds : (t : Tree) (s : Role) → Composes P (Has (s .known)) t → Succeeds (compose P none-made t s)
   succeeds t s d = go (compose P none-made t s) (good P none-made Any-tree (λ h ts i u j. tt) t s tt)
     where
