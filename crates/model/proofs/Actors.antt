@@ -2,31 +2,23 @@
 use Prim.Native.Nat.{ℕ, _+_, _≤_}
 use mathlib.Core.List.{List, [], _∷_, _++_}
 use mathlib.Core.Option.{Option, none as nothing, some}
-use mathlib.Core.Path.{_≡_, refl, ap, subst, _∙_, subst⁻¹, fun-ext}
+use mathlib.Core.Path.{_≡_, refl, ap, subst, subst⁻¹, _∙_}
 use native.Mathlib.Omega.{arith}
 use Rattle.model.specs.Lists.{Every, zip, firsts}
-use Rattle.model.specs.Trees.{Tree, leaf, Formed}
+use Rattle.model.specs.Trees.{Tree, leaf}
 use Rattle.model.specs.Deduction.{Party}
-use Rattle.model.specs.Roles.{Act, say, Role, start, Said, spoke, failed, said}
-use Rattle.model.specs.Lives.{spoken}
-use Rattle.model.specs.Runs.{Memory, empty, Machine, ran, exec, says-of, later, answer}
+use Rattle.model.specs.Roles.{Role}
+use Rattle.model.specs.Runs.{Memory, Machine, ran, exec, answer}
 use Rattle.model.specs.Holdings.{Stock, add, Reads-as}
 use Rattle.model.specs.Specifications.{Duty, begin, speak, listen}
-use Rattle.model.specs.Programs.{nobody-yet, given, line, new-names, next-role, takes, names}
+use Rattle.model.specs.Programs.{next-role, line, takes, names}
 use Rattle.model.proofs.Lists.{firsts-append}
-use Rattle.model.proofs.Machine.{some-inj, no-some, Below}
 use Rattle.model.proofs.Sheets.{Fed}
-use Rattle.model.proofs.Grounds.{Good}
 use Rattle.model.proofs.Filling.{Went}
 use Rattle.model.proofs.Turning.{None}
-use Rattle.model.proofs.Lines.{went-heard, went-start}
 use Rattle.model.proofs.Standing.{fed-firsts, Stands}
-use Rattle.model.proofs.Courses.{line-is, said-went, names-are}
 use Rattle.model.proofs.Chosen.{Total, line-cost, Runs-as, line-chosen}
-
-pub answer-last : (xs : List Act) (r : ℕ) (m : Memory) (v : Tree) → m r ≡ some v → answer (xs ++ (say r ∷ [])) m ≡ some v
-answer-last [] r m v e = e
-answer-last (x ∷ xs) r m v e = ap (λ o. later o (says-of x m)) (answer-last xs r m v e)
+use Rattle.model.proofs.Fitting.{answer-last, Fit, Told, went-duty}
 
 -- a role in the world
 pub record Actor : Type 0 where
@@ -45,53 +37,12 @@ module _ (term : ℕ → Tree) where
   told (speak l mk) (some v) = (l, v) ∷ []
   told (listen l) o = []
 
-  abbrev pub Fit : Duty → Role → Type 0
-  Fit (begin ts) s = (s ≡ nobody-yet) × Every Formed ts
-  Fit (speak l mk) s = Formed (term l)
-  Fit (listen l) s = Formed (term l)
-
-  abbrev pub Told : Duty → Role → Role → Memory → Type 0
-  Told (begin ts) s s′ Γ = Unit {0}
-  Told (speak l mk) s s′ Γ = (r : ℕ) × (xs : List Act) × (line s s′ ≡ xs ++ (say r ∷ [])) × (Γ r ≡ some (term l))
-  Told (listen l) s s′ Γ = Unit {0}
-
-  none-below : (Γ : Memory) → Below 0 Γ → empty ≡ Γ
-  none-below Γ b = fun-ext (λ r. go r (Γ r) refl)
-    where
-      go : (r : ℕ) (o : Option Tree) → Γ r ≡ o → nothing ≡ o
-      go r nothing e = refl
-      go r (some t) e = let h = b r t e in absurd (omega arith)
-
-  pub went-duty : (P : Party) (d : Duty) (s s′ : Role) (Γ : Memory) → Good s Γ (s .next) None → Fit d s → next-role term P d s ≡ some s′
-      → (w : Went P s Γ s′ None (takes term P d) (names d s s′)) × Told d s s′ (w .sheet)
-  went-duty P (begin ts) s s′ Γ g f e = (
-    subst (λ z. Went P s Γ z None (given P ts) []) (some-inj e)
-        (subst⁻¹ (λ z. (Δ : Memory) → Good z Δ (z .next) None → Went P z Δ (start P ts) None (given P ts) []) (f .0)
-        (λ Δ k. subst (λ z. Went P nobody-yet z (start P ts) None (given P ts) []) (none-below Δ (k .bound)) (went-start P ts (f .1) .0)) Γ g),
-    tt,
-  )
-  went-duty P (listen l) s s′ Γ g f e =
-      (subst (λ z. Went P s Γ z None (term l ∷ []) []) (some-inj e) (went-heard P (term l) s Γ g f .0), tt)
-  went-duty P (speak l mk) s s′ Γ g f e = go (said P mk (term l) s) refl e
-    where
-      go : (x : Said) → said P mk (term l) s ≡ x → spoken x ≡ some s′ → (w : Went P s Γ s′ None [] (new-names s s′)) × Told (speak l mk) s s′ (w .sheet)
-      go (spoke u) p q =
-          let z = said-went P mk (term l) s s′ Γ g f (p ∙ ap spoke (some-inj q)) in
-          subst⁻¹ (λ k. (w : Went P s Γ s′ None [] k) × Told (speak l mk) s s′ (w .sheet)) (names-are P s s′ (z .0) (z .3))
-          (z .1, (z .4, z .5, line-is P (z .1 .grew) ∙ z .6, z .7))
-      go (failed u) p q = absurd (no-some q)
-
-  -- duties that can be done in a state: each line can be said
-  abbrev pub Fitting : Party → Role → List Duty → Type 0
-  Fitting P s [] = Unit {0}
-  Fitting P s (d ∷ ds) = Fit d s × elim (next-role term P d s) [ some s′ ↦ Fitting P s′ ds | nothing ↦ ⊥ ]
-
   module _ (c : Tree → ℕ) (R : Tree → Tree) where
     -- the duties can be programmed, and the numbers for `new` are those of the choice
     abbrev pub Ready : Party → Role → List Duty → List ℕ → Type 0
     Ready P s [] ks = Unit {0}
     Ready P s (d ∷ ds) ks =
-        Fit d s × elim (next-role term P d s) [
+        Fit term d s × elim (next-role term P d s) [
           | some s′ ↦ (ks′ : List ℕ) × Fed (λ a k. R (leaf a) ≡ leaf k) (names d s s′) ks ks′ × Ready P s′ ds ks′
           | nothing ↦ ⊥
         ]
@@ -144,7 +95,7 @@ module _ (term : ℕ → Tree) where
       pub pays : machine′ .space + remaining a ≡ space + remaining (after-call a d ds vs role′ machine′)
       pub says : True-log (told d (answer (line (a .role) role′) (machine′ .mem)))
 
-    told-true : (P : Party) (d : Duty) (s s′ : Role) (Γ m : Memory) → Told d s s′ Γ → ((r : ℕ) (t : Tree) → Γ r ≡ some t → m r ≡ some (R t))
+    told-true : (P : Party) (d : Duty) (s s′ : Role) (Γ m : Memory) → Told term d s s′ Γ → ((r : ℕ) (t : Tree) → Γ r ≡ some t → m r ≡ some (R t))
         → True-log (told d (answer (line s s′) m))
     told-true P (begin ts) s s′ Γ m x f = tt
     told-true P (listen l) s s′ Γ m x f = tt
@@ -158,7 +109,7 @@ module _ (term : ℕ → Tree) where
     less l l′ k n p q = omega arith
 
     module _ (all-read : Total R) where
-      call-runs : (a : Actor) (space : ℕ) (vs : List Tree) (d : Duty) (ds : List Duty) (w : Well a) → Fit d (a .role)
+      call-runs : (a : Actor) (space : ℕ) (vs : List Tree) (d : Duty) (ds : List Duty) (w : Well a) → Fit term d (a .role)
           → Fed (λ t v. R t ≡ v) (takes term (a .party) d) vs [] → (s′ : Role) → next-role term (a .party) d (a .role) ≡ some s′
           → (ks : List ℕ) → Fed (λ a k. R (leaf a) ≡ leaf k) (names d (a .role) s′) (a .numbers) ks → Ready (a .party) s′ ds ks
           → (let is = firsts (a .holdings .taken) ++ takes term (a .party) d in let ns = firsts (a .holdings .made) ++ names d (a .role) s′ in
@@ -207,8 +158,8 @@ module _ (term : ℕ → Tree) where
           co= : cost P s′ (firsts (h′ .taken)) (firsts (h′ .made)) ds ≡ cost P s′ is′ ns′ ds
           co= = λ i. cost P s′ (is= i) (ns= i) ds
 
-          u : (w′ : Went P s (w .sheet) s′ None (takes term P d) (names d s s′)) × Told d s s′ (w′ .sheet)
-          u = went-duty P d s s′ (w .sheet) (w .stands .good) fit e
+          u : (w′ : Went P s (w .sheet) s′ None (takes term P d) (names d s s′)) × Told term d s s′ (w′ .sheet)
+          u = went-duty term P d s s′ (w .sheet) (w .stands .good) fit e
 
           z : (M′ : Machine) × Runs-as c R s s′ h′ [] ks (machine a space vs) M′
               × ((r : ℕ) (t : Tree) → u .0 .sheet r ≡ some t → M′ .mem r ≡ some (R t)) × Stands P s′ (u .0 .sheet) (M′ .mem) h′

@@ -1,12 +1,12 @@
 -- A run whose inputs are read by one reading: it is never refused but for space, and each register holds the reading of its term.
-use Prim.Native.Nat.{ℕ, _+_, _-_, _<_}
+use Prim.Native.Nat.{ℕ, _+_, _<_, _-_}
 use mathlib.Core.Bool.{Bool, true, false, _&&_, not}
 use mathlib.Core.List.{List, [], _∷_}
 use mathlib.Core.Logic.{inl, inr}
 use mathlib.Core.Option.{some}
-use mathlib.Core.Path.{_≡_, refl, ap, subst, sym, _∙_, subst⁻¹}
+use mathlib.Core.Path.{_≡_, refl, ap, subst, sym, subst⁻¹, _∙_}
 use native.Mathlib.Omega.{arith}
-use lib.Dec.{T, eqb, eqb-refl, leb, leb→le, nleb→lt}
+use lib.Dec.{eqb, T, leb, eqb-refl, leb→le, nleb→lt}
 use Rattle.model.specs.Lists.{Every}
 use Rattle.model.specs.Trees.{Head, tupled, crypted, applied, Tree, leaf, node, Trees, none, more, eq-tree, crypt, _among_, map-trees, Shape}
 use Rattle.model.specs.Deduction.{Party, may, Derives, held, build, part, text}

@@ -2,14 +2,14 @@
 use Prim.Native.Nat.{ℕ, _+_}
 use mathlib.Core.List.{List, [], _∷_, _++_}
 use mathlib.Core.Option.{Option, none as nothing, some}
-use mathlib.Core.Path.{_≡_, refl, ap, subst, sym, _∙_, subst⁻¹}
+use mathlib.Core.Path.{_≡_, refl, ap, subst, sym, subst⁻¹, _∙_}
 use native.Mathlib.Omega.{arith}
 use Rattle.model.specs.Trees.{Tree, leaf, node}
 use Rattle.model.specs.Deduction.{Party}
 use Rattle.model.specs.Roles.{Act, Role}
 use Rattle.model.specs.Runs.{Memory, empty, set}
 use Rattle.model.specs.Specifications.{Duty}
-use Rattle.model.specs.Programs.{nobody-yet, line, next-role, takes, names}
+use Rattle.model.specs.Programs.{nobody-yet, next-role, line, takes, names}
 use Rattle.model.specs.Costs.{price, bill, bills, sheet-of}
 use Rattle.model.proofs.Machine.{no-some, set-same, Below, _⊑_}
 use Rattle.model.proofs.Sheets.{Move, gives, hears, news, says, sames, makes, splits, unlocks, Plan, done, then, move-keeps, plan-keeps}
@@ -19,7 +19,8 @@ use Rattle.model.proofs.Lines.{good-nobody}
 use Rattle.model.proofs.Courses.{line-is}
 use Rattle.model.proofs.Chosen.{sheet-covers, line-cost}
 use Rattle.model.proofs.Scripts.{went-then}
-use Rattle.model.proofs.Actors.{went-duty, Fitting, cost}
+use Rattle.model.proofs.Fitting.{went-duty, Fitting}
+use Rattle.model.proofs.Actors.{cost}
 
 module _ (c : Tree → ℕ) (R : Tree → Tree) where
   pub bills-append : (S : Memory) (xs ys : List Act) → bills c R S (xs ++ ys) ≡ bills c R S xs + bills c R S ys

@@ -2,7 +2,7 @@
 use Prim.Native.Nat.{ℕ, _≤_}
 use mathlib.Core.Bool.{Bool, true, false, _&&_, cond}
 use mathlib.Core.List.{List}
-use mathlib.Core.Logic.{_⊎_, inl, inr, _↔_, Iff·rfl}
+use mathlib.Core.Logic.{_⊎_, _↔_, inl, inr, Iff·rfl}
 use mathlib.Core.Option.{Option, none as nothing, some}
 use mathlib.Core.Path.{_≡_, refl, subst⁻¹}
 use native.Mathlib.Omega.{arith}

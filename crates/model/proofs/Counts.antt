@@ -3,7 +3,7 @@ use Prim.Native.Nat.{ℕ, _+_, suc}
 use mathlib.Core.Bool.{Bool, true, false, cond}
 use mathlib.Core.List.{List, [], _∷_, _++_, append-assoc}
 use mathlib.Core.Option.{Option, none as nothing, some}
-use mathlib.Core.Path.{_≡_, refl, ap, sym, _∙_, subst⁻¹}
+use mathlib.Core.Path.{_≡_, refl, ap, sym, subst⁻¹, _∙_}
 use native.Mathlib.Omega.{arith}
 use lib.ListN.{length, length-append}
 use Rattle.model.specs.Lists.{Every, rest-of}
@@ -12,7 +12,7 @@ use Rattle.model.specs.Deduction.{Party}
 use Rattle.model.specs.Roles.{Act, give, new, hear, say, same, make, split, unlock, Role, fill, enter, meet, knows, settled, give-all, start, heard}
 use Rattle.model.specs.Runs.{Memory, empty, set}
 use Rattle.model.specs.Specifications.{Duty}
-use Rattle.model.specs.Programs.{nobody-yet, given, line, next-role, takes, names, Stage, stage, stages-from, all-actions, all-makes}
+use Rattle.model.specs.Programs.{nobody-yet, next-role, given, line, takes, names, Stage, stage, stages-from, all-actions, all-makes}
 use Rattle.model.specs.Sessions.{gives as count-gives, news as count-news}
 use Rattle.model.proofs.Lists.{every-join, rest-append}
 use Rattle.model.proofs.Machine.{set-same}
@@ -22,7 +22,7 @@ use Rattle.model.proofs.Filling.{Grew, grew-meet, good-set, Went}
 use Rattle.model.proofs.Turning.{None, went-settled}
 use Rattle.model.proofs.Lines.{good-nobody, gave, went-start}
 use Rattle.model.proofs.Courses.{line-is}
-use Rattle.model.proofs.Actors.{went-duty, Fitting}
+use Rattle.model.proofs.Fitting.{went-duty, Fitting}
 
 abbrev count-hears : List Act → ℕ
 count-hears [] = 0

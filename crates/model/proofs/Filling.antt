@@ -4,7 +4,7 @@ use mathlib.Core.Bool.{Bool, true, false, cond}
 use mathlib.Core.List.{List, [], _∷_, _++_, append-assoc, append-nil}
 use mathlib.Core.Logic.{inl, inr}
 use mathlib.Core.Option.{Option, none as nothing, some}
-use mathlib.Core.Path.{_≡_, refl, ap, sym, _∙_, subst⁻¹}
+use mathlib.Core.Path.{_≡_, refl, ap, sym, subst⁻¹, _∙_}
 use native.Mathlib.Omega.{arith}
 use lib.Dec.{T}
 use Rattle.model.specs.Lists.{Every}
@@ -15,7 +15,7 @@ use Rattle.model.specs.Entries.{Has, Held}
 use Rattle.model.specs.Runs.{Memory, set, puts, reads}
 use Rattle.model.specs.Programs.{leaf-of, leaves}
 use Rattle.model.proofs.Lists.{every-join}
-use Rattle.model.proofs.Entries.{entry, with-one, Found, found, has-split}
+use Rattle.model.proofs.Entries.{entry, with-one, Found, found}
 use Rattle.model.proofs.Composing.{Small, small-one}
 use Rattle.model.proofs.Machine.{set-same, set-other, puts-below, all-set, all-puts, Below, below-set, below-puts, _⊑_, ⊑-set, ⊑-puts, reads-parts, reads-more, ⊑-reads, regs}
 use Rattle.model.proofs.Sheets.{Move, news, sames, makes, Plan, done, then, plan-append, plan-keeps, facts-right}

@@ -9,6 +9,8 @@ pub mod Marking
 pub mod Keeping
 pub mod Settling
 pub mod Resting
+pub mod Lived
+pub mod Saying
 pub mod Lives
 pub mod Machine
 pub mod Sheets
@@ -24,6 +26,7 @@ pub mod Standing
 pub mod Courses
 pub mod Chosen
 pub mod Scripts
+pub mod Fitting
 pub mod Actors
 pub mod Linked
 pub mod Speaking
@@ -33,12 +36,19 @@ pub mod Names
 pub mod ComposingLaw
 pub mod SettlingLaw
 pub mod Living
-pub mod Attending
 pub mod Counts
 pub mod Filled
 pub mod ProgramLaw
+pub mod Doing
+pub mod Attends
+pub mod Coming
+pub mod Attending
+pub mod Tried
 pub mod Answering
+pub mod Sums
+pub mod Following
 pub mod Choosing
+pub mod Fair
 pub mod RefusalLaw
 pub mod SessionLaw
 pub mod WorkedExamples

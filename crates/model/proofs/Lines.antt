@@ -4,7 +4,7 @@ use mathlib.Core.Bool.{Bool, true, false, cond}
 use mathlib.Core.List.{List, [], _∷_, _++_, append-assoc, append-nil}
 use mathlib.Core.Logic.{_⊎_, inl, inr}
 use mathlib.Core.Option.{some}
-use mathlib.Core.Path.{_≡_, refl, ap, subst, sym, _∙_, subst⁻¹}
+use mathlib.Core.Path.{_≡_, refl, ap, subst, sym, subst⁻¹, _∙_}
 use native.Mathlib.Omega.{arith}
 use lib.Dec.{T}
 use Rattle.model.specs.Lists.{Every}
@@ -14,7 +14,7 @@ use Rattle.model.specs.Roles.{Act, give, hear, say, Entry, Role, fill, enter, 
 use Rattle.model.specs.Entries.{Has, At-rest}
 use Rattle.model.specs.Keeping.{Done, DoneAt, Inv, Nobody}
 use Rattle.model.specs.Runs.{Memory, empty, set}
-use Rattle.model.specs.Programs.{leaves, terms, nobody-yet, given}
+use Rattle.model.specs.Programs.{nobody-yet, terms, leaves, given}
 use Rattle.model.proofs.Lists.{every-map}
 use Rattle.model.proofs.Entries.{entry, with-one, held-has, knows-has}
 use Rattle.model.proofs.Composing.{Any-tree}

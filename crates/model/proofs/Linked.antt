@@ -2,9 +2,9 @@
 use Prim.Native.Nat.{ℕ}
 use mathlib.Core.Bool.{Bool, true, false, cond}
 use mathlib.Core.List.{List, [], _∷_, _++_}
-use mathlib.Core.Logic.{_⊎_, inl, inr, _↔_}
+use mathlib.Core.Logic.{_⊎_, _↔_, inl, inr}
 use mathlib.Core.Option.{some}
-use mathlib.Core.Path.{_≡_, refl, ap, subst, sym, _∙_, subst⁻¹}
+use mathlib.Core.Path.{_≡_, refl, ap, subst, sym, subst⁻¹, _∙_}
 use lib.Dec.{T}
 use Rattle.model.specs.Lists.{Every, Some-of, firsts}
 use Rattle.model.specs.Trees.{Tree, leaf, node, Within, Formed}
@@ -12,10 +12,11 @@ use Rattle.model.specs.Deduction.{Party}
 use Rattle.model.specs.Roles.{give, Entry, Role, fill, enter, knows, give-all, spoke, said}
 use Rattle.model.specs.Entries.{Has}
 use Rattle.model.specs.Lives.{Fresh, Life, says, OneOf, Holdings, New, Disciplined, after-hear, spoken, after-say, run}
-use Rattle.model.specs.Programs.{leaf-of, leaves, terms, nobody-yet, given, new-names}
+use Rattle.model.specs.Programs.{nobody-yet, terms, leaf-of, leaves, given, new-names}
 use Rattle.model.proofs.Lists.{some-left, some-right, some-map, every-some}
 use Rattle.model.proofs.Entries.{entry, knows-has, has-old, has-new, has-split}
-use Rattle.model.proofs.Lives.{Seen, Lived, lived}
+use Rattle.model.proofs.Lived.{Seen, Lived}
+use Rattle.model.proofs.Lives.{lived}
 use Rattle.model.proofs.Courses.{said-went, names-are}
 use Rattle.model.proofs.Scripts.{Script, started, hearing, saying, script-went}
 

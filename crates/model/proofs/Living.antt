@@ -2,9 +2,9 @@
 use Prim.Native.Nat.{ℕ, _<_}
 use mathlib.Core.Bool.{Bool, true, false, cond}
 use mathlib.Core.List.{List, [], _∷_, _++_, append-nil}
-use mathlib.Core.Logic.{_⊎_, inl, inr, _↔_}
+use mathlib.Core.Logic.{_⊎_, _↔_, inl, inr}
 use mathlib.Core.Option.{some}
-use mathlib.Core.Path.{_≡_, refl, ap, subst, _∙_, subst⁻¹}
+use mathlib.Core.Path.{_≡_, refl, ap, subst, subst⁻¹, _∙_}
 use lib.Dec.{T, ltb, ltb→lt}
 use Rattle.model.specs.Lists.{Every, zip, firsts}
 use Rattle.model.specs.Trees.{Tree, leaf}
@@ -12,14 +12,14 @@ use Rattle.model.specs.Deduction.{Party}
 use Rattle.model.specs.Roles.{Role, start, heard, Said, spoke, failed, said}
 use Rattle.model.specs.Lives.{Life, starts, hears, says, Holdings, Disciplined, spoken}
 use Rattle.model.specs.Holdings.{Stock, nothing-held, add, Term-of}
-use Rattle.model.specs.Specifications.{Duty, begin, speak, listen, Specification, message, own, duties, life-on, life}
-use Rattle.model.specs.Programs.{nobody-yet, given, new-names, next-role, takes, names}
+use Rattle.model.specs.Specifications.{Specification, message, Duty, begin, speak, listen, own, duties, life-on, life}
+use Rattle.model.specs.Programs.{nobody-yet, next-role, given, takes, new-names, names}
 use Rattle.model.proofs.Lists.{firsts-append}
 use Rattle.model.proofs.Machine.{some-inj, no-some}
 use Rattle.model.proofs.Sheets.{Fed}
 use Rattle.model.proofs.Standing.{fed-firsts}
 use Rattle.model.proofs.Scripts.{Script, started, hearing, saying}
-use Rattle.model.proofs.Actors.{Fit}
+use Rattle.model.proofs.Fitting.{Fit}
 use Rattle.model.proofs.Linked.{some-firsts, script-holdings}
 use Rattle.model.proofs.Duties.{Is-line, own-lines, disciplined-before}
 use Rattle.model.proofs.Names.{disciplined}

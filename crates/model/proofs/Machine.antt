@@ -1,12 +1,12 @@
 -- Laws of the machine: registers, lists of actions, and what an action that ran has done.
-use Prim.Native.Nat.{ℕ, _+_, _-_, _<_, _≤_}
+use Prim.Native.Nat.{ℕ, _+_, _<_, _-_, _≤_}
 use mathlib.Core.Bool.{Bool, true, false, _&&_, cond}
 use mathlib.Core.List.{List, [], _∷_}
-use mathlib.Core.Logic.{inl, inr, _↔_}
+use mathlib.Core.Logic.{_↔_, inl, inr}
 use mathlib.Core.Option.{Option, none as nothing, some}
-use mathlib.Core.Path.{_≡_, refl, ap, subst, sym, _∙_, subst⁻¹}
+use mathlib.Core.Path.{_≡_, refl, ap, subst, sym, subst⁻¹, _∙_}
 use native.Mathlib.Omega.{arith}
-use lib.Dec.{T, eqb, eqb→eq, eqb-refl, leb}
+use lib.Dec.{eqb, T, leb, eqb→eq, eqb-refl}
 use Rattle.model.specs.Trees.{Head, tupled, crypted, applied, Tree, leaf, node, Trees, none, more, eq-head, eq-tree, crypt, _among_}
 use Rattle.model.specs.Roles.{Act, give, new, hear, say, same, make, split, unlock, count}
 use Rattle.model.specs.Runs.{Memory, set, puts, and-more, reads, Fault, mismatch, full, Machine, Result, ran, refused, need, need-all, check, with-memory, take-input, take-number, open-up, open-crypt, step, and-on, exec}

@@ -5,7 +5,7 @@ use mathlib.Core.List.{List, [], _∷_}
 use mathlib.Core.Logic.{_⊎_, inl, inr}
 use mathlib.Core.Path.{_≡_, ap, sym, subst⁻¹}
 use native.Mathlib.Omega.{arith}
-use lib.Dec.{T, eqb, eqb→eq, eqb-refl}
+use lib.Dec.{eqb, T, eqb→eq, eqb-refl}
 use Rattle.model.specs.Lists.{Every}
 use Rattle.model.specs.Trees.{Tree, size}
 use Rattle.model.specs.Deduction.{Party}

@@ -6,11 +6,11 @@ use mathlib.Core.Logic.{_⊎_, inl, inr}
 use mathlib.Core.Path.{_≡_, refl, subst}
 use native.Mathlib.Decide.{decLt}
 use native.Mathlib.Omega.{arith}
-use lib.Dec.{T, eqb, eqb→eq, eqb-refl, T-not}
+use lib.Dec.{eqb, T, eqb→eq, eqb-refl, T-not}
 use Rattle.model.specs.Lists.{Every}
 use Rattle.model.specs.Trees.{Tree, leaf, node, Trees, none, more, _among_, Within, itself, inside}
 use Rattle.model.specs.Lives.{Life, starts, hears, says, OneOf, Passed, New, Disciplined}
-use Rattle.model.specs.Specifications.{Duty, speak, listen, Line, Specification, stands, stands-in-one, stands-in, message, stood-before, started-from, makes, own-from, life-on, life}
+use Rattle.model.specs.Specifications.{Line, Specification, stands, stands-in-one, stands-in, message, stood-before, started-from, makes, Duty, speak, listen, own-from, life-on, life}
 use Rattle.model.specs.NamesLaw.{First-stands, Names-law}
 use Rattle.model.proofs.Tests.{or-cases, or-left, or-right, and-both, and-left, and-right, not-true}
 

@@ -1,9 +1,9 @@
 -- The law of programs, proved.
-use Prim.Native.Nat.{ℕ, suc, _+_, _≤_, _<_}
+use Prim.Native.Nat.{ℕ, _+_, suc, _<_, _≤_}
 use mathlib.Core.Bool.{Bool, true, false, cond}
 use mathlib.Core.List.{List, [], _∷_, _++_, map}
 use mathlib.Core.Option.{Option, none as nothing, some}
-use mathlib.Core.Path.{_≡_, refl, sym, _∙_, ap, subst, subst⁻¹}
+use mathlib.Core.Path.{_≡_, refl, ap, subst, sym, subst⁻¹, _∙_}
 use native.Mathlib.Omega.{arith}
 use lib.Dec.{eqb, ltb}
 use lib.ListN.{length}
@@ -13,7 +13,7 @@ use Rattle.model.specs.Deduction.{Party}
 use Rattle.model.specs.Roles.{Act, Role, count}
 use Rattle.model.specs.Runs.{Memory, empty, reads}
 use Rattle.model.specs.Specifications.{Line, Specification, message, makes, Duty, begin, speak, listen, own-from, own, duties}
-use Rattle.model.specs.Programs.{nobody-yet, next-role, line, turn-of, Stage, stage, stages-from, stages, all-actions, line-of, rows-of, program}
+use Rattle.model.specs.Programs.{nobody-yet, next-role, line, Stage, turn-of, stage, stages-from, stages, all-actions, line-of, rows-of, program}
 use Rattle.model.specs.ProgramLaw.{from, targets, sources, filled, Distinct, Never-falls, Program-law}
 use Rattle.model.proofs.Machine.{Below, reads-parts}
 use Rattle.model.proofs.Sheets.{Move, gives, hears, news, says, sames, makes as makes-it, splits, unlocks, Plan, done, then, move-keeps}
@@ -21,9 +21,7 @@ use Rattle.model.proofs.Grounds.{Good}
 use Rattle.model.proofs.Turning.{None}
 use Rattle.model.proofs.Lines.{good-nobody}
 use Rattle.model.proofs.Courses.{line-is}
-use Rattle.model.proofs.Actors.{Fitting, went-duty}
-use Rattle.model.proofs.Attending.{all-fitting}
-use Rattle.model.proofs.Lists.{every-join}
+use Rattle.model.proofs.Fitting.{went-duty, Fitting, all-fitting}
 use Rattle.model.proofs.Filled.{length-from, distinct-from, In-order, actions-of, filled-numbered, reads-earlier}
 
 reads-below : (n : ℕ) (Γ : Memory) → Below n Γ → (rs : List ℕ) (ts : Trees) → reads Γ rs ≡ some ts → Every (λ q. q < n) rs

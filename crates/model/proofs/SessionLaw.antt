@@ -1,9 +1,10 @@
 -- The law of sessions, proved.
 use Rattle.model.specs.Sessions.{State, new-runs, after}
 use Rattle.model.specs.SessionLaw.{Session-law}
-use Rattle.model.proofs.Attending.{All-attend, new-attend, after-attends, attends-life}
+use Rattle.model.proofs.Attends.{All-attend, new-attend}
+use Rattle.model.proofs.Attending.{after-attends, attends-life}
 use Rattle.model.proofs.Answering.{decides}
-use Rattle.model.proofs.Choosing.{fair-goes}
+use Rattle.model.proofs.Fair.{fair-goes}
 
 pub session-law : Session-law
 session-law S acc c space es =

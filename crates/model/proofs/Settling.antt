@@ -2,7 +2,7 @@
 use Prim.Native.Nat.{ℕ, _+_, _<_, _≤_}
 use mathlib.Core.Bool.{Bool, true, false, not, cond}
 use mathlib.Core.List.{List, [], _∷_, _++_}
-use mathlib.Core.Logic.{_⊎_, inl, inr, _↔_, Iff·rfl}
+use mathlib.Core.Logic.{_⊎_, _↔_, inl, inr, Iff·rfl}
 use mathlib.Core.Path.{_≡_, refl, ap, subst, subst⁻¹}
 use native.Mathlib.Omega.{arith}
 use lib.Dec.{T, not-T}

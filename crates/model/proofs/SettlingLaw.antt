@@ -5,7 +5,8 @@ use Rattle.model.specs.Lives.{Life, Holdings, Disciplined}
 use Rattle.model.specs.Specifications.{life-to}
 use Rattle.model.specs.SettlingLaw.{Settling-law}
 use Rattle.model.proofs.Deduction.{complete}
-use Rattle.model.proofs.Lives.{Lived, lived, can-derivable}
+use Rattle.model.proofs.Lived.{Lived}
+use Rattle.model.proofs.Lives.{lived, can-derivable}
 use Rattle.model.proofs.Duties.{disciplined-before}
 use Rattle.model.proofs.ComposingLaw.{disciplined-to}
 

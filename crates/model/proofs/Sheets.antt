@@ -5,7 +5,7 @@ use mathlib.Core.List.{List, [], _∷_, _++_, append-assoc}
 use mathlib.Core.Option.{some}
 use mathlib.Core.Path.{_≡_, refl, subst, sym, subst⁻¹}
 use native.Mathlib.Omega.{arith}
-use lib.Dec.{T, eqb}
+use lib.Dec.{eqb, T}
 use Rattle.model.specs.Trees.{Head, Tree, leaf, node, Trees, none, more, crypt, Shape}
 use Rattle.model.specs.Deduction.{Party, may, opens}
 use Rattle.model.specs.Roles.{Act, give, new, hear, say, same, make, split, unlock, count}

@@ -1,9 +1,9 @@
 -- How a role stands after lines that were taken: its list, its memory and its holdings with their values.
 use Prim.Native.Nat.{ℕ, _+_, _≤_}
 use mathlib.Core.List.{List, [], _∷_, _++_}
-use mathlib.Core.Logic.{inl, inr, _↔_}
+use mathlib.Core.Logic.{_↔_, inl, inr}
 use mathlib.Core.Option.{some}
-use mathlib.Core.Path.{_≡_, refl, ap, subst, _∙_, subst⁻¹}
+use mathlib.Core.Path.{_≡_, refl, ap, subst, subst⁻¹, _∙_}
 use native.Mathlib.Omega.{arith}
 use Rattle.model.specs.Lists.{Every, Some-of, zip, firsts}
 use Rattle.model.specs.Trees.{Tree, leaf}

@@ -4,9 +4,9 @@ use mathlib.Core.Bool.{Bool, true, false, _&&_, _||_, not, cond}
 use mathlib.Core.List.{List, [], _∷_, _++_}
 use mathlib.Core.Logic.{_⊎_, inl, inr}
 use mathlib.Core.Option.{Option, none as nothing, some}
-use mathlib.Core.Path.{_≡_, refl, ap, subst, sym, _∙_, subst⁻¹}
+use mathlib.Core.Path.{_≡_, refl, ap, subst, sym, subst⁻¹, _∙_}
 use native.Mathlib.Omega.{arith}
-use lib.Dec.{T, eqb, eqb→eq, not-T}
+use lib.Dec.{eqb, T, eqb→eq, not-T}
 use Rattle.model.specs.Lists.{Every}
 use Rattle.model.specs.Trees.{Head, tupled, crypted, applied, Tree, leaf, node, Trees, none, more, crypt, _among_}
 use Rattle.model.specs.Deduction.{Party, may, opens}
@@ -16,10 +16,10 @@ use Rattle.model.specs.Runs.{Memory, set, puts, reads}
 use Rattle.model.proofs.Tests.{or-cases, and-left as first, and-right as second}
 use Rattle.model.proofs.Deduction.{Composes}
 use Rattle.model.proofs.Entries.{every-both}
-use Rattle.model.proofs.Composing.{Any-tree, composes-map, can-composes, can-all-composes, Base, Good as Sound-one, Good-all as Sound-all, good, good-all}
+use Rattle.model.proofs.Composing.{composes-map, can-composes, can-all-composes, Base, Any-tree, Good as Sound-one, Good-all as Sound-all, good, good-all}
 use Rattle.model.proofs.Marking.{Is, is-every, has-mark, mark-every, mark-ascends, mark-once}
 use Rattle.model.proofs.Resting.{FirstDue, first-is}
-use Rattle.model.proofs.Machine.{⊑-puts, some-inj, set-same, ⊑-set, reads-more, ⊑-reads, regs, reads-puts, regs-count}
+use Rattle.model.proofs.Machine.{some-inj, set-same, ⊑-set, ⊑-puts, reads-more, ⊑-reads, regs, reads-puts, regs-count}
 use Rattle.model.proofs.Sheets.{sames, makes, splits, unlocks, facts-left, facts-right}
 use Rattle.model.proofs.Grounds.{Explained, Good, good-same, good-meet, meet-next, good-meet-all}
 use Rattle.model.proofs.Filling.{Grew, grew-none, grew-then, grew-one, grew-keeps, grew-meet, grew-meet-all, good-set, good-puts, Went, Made, Made-all, made, made-all}

@@ -1,7 +1,7 @@
 -- Every value in a register can be derived from the values that came in and the atoms made.
 use Prim.Native.Nat.{ℕ}
 use mathlib.Core.List.{List, [], _∷_}
-use mathlib.Core.Path.{_≡_, subst, sym, _∙_, subst⁻¹}
+use mathlib.Core.Path.{_≡_, subst, sym, subst⁻¹, _∙_}
 use Rattle.model.specs.Trees.{Tree, leaf, node}
 use Rattle.model.specs.Deduction.{Party, Derives, held, build, part, text}
 use Rattle.model.specs.Roles.{Act}

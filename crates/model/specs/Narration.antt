@@ -1,6 +1,6 @@
 -- A narration, computed: m says n to h, and h says n under k to m; k is shared and given to both.
 use Prim.Native.Nat.{ℕ}
-use mathlib.Core.Bool.{false, true, cond}
+use mathlib.Core.Bool.{true, false, cond}
 use mathlib.Core.List.{List, [], _∷_}
 use mathlib.Core.Option.{none as nothing, some}
 use mathlib.Core.Path.{_≡_}
