@@ -13,10 +13,10 @@ use Rattle.model.specs.Holdings.{Stock, add, Reads-as}
 use Rattle.model.specs.Specifications.{Duty, begin, speak, listen}
 use Rattle.model.specs.Programs.{next-role, line, takes, names}
 use Rattle.model.proofs.Lists.{firsts-append}
-use Rattle.model.proofs.Sheets.{Fed}
+use Rattle.model.proofs.Feeding.{Fed, fed-firsts}
 use Rattle.model.proofs.Filling.{Went}
-use Rattle.model.proofs.Turning.{None}
-use Rattle.model.proofs.Standing.{fed-firsts, Stands}
+use Rattle.model.proofs.Marked.{None}
+use Rattle.model.proofs.Standing.{Stands}
 use Rattle.model.proofs.Chosen.{Total, line-cost, Runs-as, line-chosen}
 use Rattle.model.proofs.Fitting.{answer-last, Fit, Told, went-duty}
 

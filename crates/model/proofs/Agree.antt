@@ -17,7 +17,8 @@ use Rattle.model.specs.Costs.{price, bill, bills}
 use Rattle.model.proofs.Lists.{every-left, every-right}
 use Rattle.model.proofs.Trees.{is-eq-tree, count-map}
 use Rattle.model.proofs.Machine.{some-inj, eq-head-iff, set-same, All, all-set, all-puts, Below, _⊑_, reads-parts, gets}
-use Rattle.model.proofs.Sheets.{Move, gives, hears, news, says, sames, makes, splits, unlocks, Plan, done, then, move-keeps, plan-keeps, Rel, Each, rel-set, rel-puts, rel-reads, Fed, fed-split}
+use Rattle.model.proofs.Sheets.{Move, gives, hears, news, says, sames, makes, splits, unlocks, Plan, done, then, move-keeps, plan-keeps, Rel, Each, rel-set, rel-puts, rel-reads}
+use Rattle.model.proofs.Feeding.{Fed, fed-split}
 
 -- what several registers hold, one by one
 pub reads-all : (Q : Tree → Type 0) (m : Memory) → All (λ r v. Q v) m → (rs : List ℕ) (vs : Trees) → reads m rs ≡ some vs

@@ -22,11 +22,12 @@ use Rattle.model.proofs.Tests.{and-right}
 use Rattle.model.proofs.Lists.{every-join, every-map}
 use Rattle.model.proofs.Deduction.{derives-map}
 use Rattle.model.proofs.Machine.{eqb-iff}
-use Rattle.model.proofs.Standing.{value-more}
+use Rattle.model.proofs.Feeding.{fed-length}
+use Rattle.model.proofs.Holdings.{value-more}
 use Rattle.model.proofs.Fitting.{Fitting}
 use Rattle.model.proofs.Living.{Living, living-on, living-holds}
 use Rattle.model.proofs.Counts.{stages-news}
-use Rattle.model.proofs.Doing.{fed-length, duty-done}
+use Rattle.model.proofs.Doing.{duty-done}
 use Rattle.model.proofs.Attends.{result-of, attempt-exec, Attends, All-attend}
 use Rattle.model.proofs.Coming.{Comes, only-first, comes-next, not-say, not-hear}
 

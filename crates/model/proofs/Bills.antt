@@ -14,9 +14,9 @@ use Rattle.model.specs.Costs.{price, bill, bills, sheet-of}
 use Rattle.model.proofs.Machine.{no-some, set-same, Below, _⊑_}
 use Rattle.model.proofs.Sheets.{Move, gives, hears, news, says, sames, makes, splits, unlocks, Plan, done, then, move-keeps, plan-keeps}
 use Rattle.model.proofs.Filling.{grew-none, Went}
-use Rattle.model.proofs.Turning.{None}
+use Rattle.model.proofs.Marked.{None}
 use Rattle.model.proofs.Lines.{good-nobody}
-use Rattle.model.proofs.Courses.{line-is}
+use Rattle.model.proofs.Adding.{line-is}
 use Rattle.model.proofs.Chosen.{sheet-covers, line-cost}
 use Rattle.model.proofs.Scripts.{went-then}
 use Rattle.model.proofs.Fitting.{went-duty, Fitting}

@@ -17,7 +17,7 @@ use Rattle.model.specs.SessionLaw.{Taken, Along, Starts-from, As-said, Unbuilt
 use Rattle.model.proofs.Tests.{and-both}
 use Rattle.model.proofs.Lists.{every-map, every-some}
 use Rattle.model.proofs.Machine.{no-some, eqb-iff}
-use Rattle.model.proofs.Sheets.{Fed}
+use Rattle.model.proofs.Feeding.{Fed}
 use Rattle.model.proofs.Chosen.{reading-total}
 use Rattle.model.proofs.Counts.{stages-news}
 use Rattle.model.proofs.Attends.{Attends}

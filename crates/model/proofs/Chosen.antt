@@ -15,12 +15,13 @@ use Rattle.model.specs.Programs.{line}
 use Rattle.model.specs.Costs.{price, bill, bills, memory-of, free, sheet-of}
 use Rattle.model.proofs.Lists.{every-map}
 use Rattle.model.proofs.Machine.{no-some, _⊑_}
-use Rattle.model.proofs.Sheets.{Plan, Rel, Fed}
+use Rattle.model.proofs.Sheets.{Plan, Rel}
+use Rattle.model.proofs.Feeding.{Fed}
 use Rattle.model.proofs.Agree.{Agrees, plan-agrees}
 use Rattle.model.proofs.Filling.{Went}
-use Rattle.model.proofs.Turning.{None}
+use Rattle.model.proofs.Marked.{None}
 use Rattle.model.proofs.Standing.{Stands, line-plan, stands-line, line-runs}
-use Rattle.model.proofs.Courses.{line-is}
+use Rattle.model.proofs.Adding.{line-is}
 
 -- a reading that builds every compound from its parts
 abbrev pub Total : (Tree → Tree) → Type 0

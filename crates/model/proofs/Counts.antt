@@ -19,9 +19,10 @@ use Rattle.model.proofs.Machine.{set-same}
 use Rattle.model.proofs.Sheets.{Move, gives, hears, news, says, sames, makes, splits, unlocks, Plan, done, then}
 use Rattle.model.proofs.Grounds.{Good, good-meet, meet-next}
 use Rattle.model.proofs.Filling.{Grew, grew-meet, good-set, Went}
-use Rattle.model.proofs.Turning.{None, went-settled}
+use Rattle.model.proofs.Marked.{None}
+use Rattle.model.proofs.Turning.{went-settled}
 use Rattle.model.proofs.Lines.{good-nobody, gave, went-start}
-use Rattle.model.proofs.Courses.{line-is}
+use Rattle.model.proofs.Adding.{line-is}
 use Rattle.model.proofs.Fitting.{went-duty, Fitting}
 
 abbrev count-hears : List Act → ℕ

@@ -1,10 +1,9 @@
 -- A duty done on values: when it is taken, and what else can become of it.
 use Prim.Native.Nat.{ℕ, _+_}
-use mathlib.Core.List.{List, [], _∷_}
+use mathlib.Core.List.{[]}
 use mathlib.Core.Logic.{_↔_}
 use mathlib.Core.Option.{some}
 use mathlib.Core.Path.{_≡_, refl, ap, subst, subst⁻¹, _∙_}
-use native.Mathlib.Omega.{arith}
 use lib.Dec.{T}
 use lib.ListN.{length}
 use Rattle.model.specs.Lists.{Every}
@@ -19,25 +18,16 @@ use Rattle.model.specs.Specifications.{Duty, begin as to-start, speak, listen}
 use Rattle.model.specs.Programs.{next-role, line, takes, names, says-line, turn-of}
 use Rattle.model.specs.Sessions.{to-say, told}
 use Rattle.model.proofs.Machine.{some-inj, no-some}
-use Rattle.model.proofs.Sheets.{Fed, fed-map, After}
+use Rattle.model.proofs.Feeding.{Fed, fed-map, fed-enough}
+use Rattle.model.proofs.After.{After}
 use Rattle.model.proofs.Unbroken.{Unbroken, Whole}
 use Rattle.model.proofs.Filling.{Went}
-use Rattle.model.proofs.Turning.{None}
+use Rattle.model.proofs.Marked.{None}
 use Rattle.model.proofs.Lines.{went-heard, went-start}
 use Rattle.model.proofs.Standing.{Stands, line-after, stands-line, line-taken, line-unbroken, line-whole}
-use Rattle.model.proofs.Courses.{line-is}
+use Rattle.model.proofs.Adding.{line-is}
 use Rattle.model.proofs.Fitting.{answer-last, Fit, Told, went-duty}
 use Rattle.model.proofs.Speaking.{said-builds, No-mismatch, builds-fit}
-
-pub fed-length : {A B : Type 0} (Q : A → B → Type 0) (xs : List A) (ys rest : List B) → Fed Q xs ys rest → length ys ≡ length xs + length rest
-fed-length Q [] ys rest h = let p = ap length h in omega arith
-fed-length Q (x ∷ xs) [] rest h = elim h [ ]
-fed-length Q (x ∷ xs) (y ∷ ys) rest h = let p = fed-length Q xs ys rest (h .1) in omega arith
-
-fed-enough : {A B : Type 0} (xs : List A) (ys : List B) (n : ℕ) → length ys ≡ length xs + n → (rest : List B) × Fed (λ x y. Unit {0}) xs ys rest
-fed-enough [] ys n e = (ys, refl)
-fed-enough (x ∷ xs) [] n e = absurd (omega arith)
-fed-enough (x ∷ xs) (y ∷ ys) n e = let k = fed-enough xs ys n (omega arith) in (k .0, (tt, k .1))
 
 -- one duty done by a role that stands
 module _ (term : ℕ → Tree) (P : Party) (c : Tree → ℕ) where

@@ -17,9 +17,9 @@ use Rattle.model.specs.Sessions.{State, new-runs, Event, begin, say, hear, bui
 use Rattle.model.specs.SessionLaw.{Along, Starts-from, As-said, Unbuilt, program-cost, costs, Suffices, Fair, Not-refused, All-read, All-share}
 use Rattle.model.proofs.Machine.{no-some}
 use Rattle.model.proofs.Grounds.{Good, held-every}
-use Rattle.model.proofs.Turning.{None}
+use Rattle.model.proofs.Marked.{None}
 use Rattle.model.proofs.Lines.{good-nobody}
-use Rattle.model.proofs.Courses.{line-is}
+use Rattle.model.proofs.Adding.{line-is}
 use Rattle.model.proofs.Fitting.{went-duty, Fitting, all-fitting}
 use Rattle.model.proofs.Actors.{Ready, cost}
 use Rattle.model.proofs.Bills.{finish, program-bill}

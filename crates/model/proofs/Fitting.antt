@@ -18,9 +18,9 @@ use Rattle.model.specs.Programs.{nobody-yet, next-role, given, line, takes, ne
 use Rattle.model.proofs.Machine.{some-inj, no-some, Below}
 use Rattle.model.proofs.Grounds.{Good}
 use Rattle.model.proofs.Filling.{Went}
-use Rattle.model.proofs.Turning.{None}
+use Rattle.model.proofs.Marked.{None}
 use Rattle.model.proofs.Lines.{went-heard, went-start}
-use Rattle.model.proofs.Courses.{line-is, said-went, names-are}
+use Rattle.model.proofs.Adding.{line-is, said-went, names-are}
 use Rattle.model.proofs.Duties.{Is-line, own-lines}
 
 pub answer-last : (xs : List Act) (r : ℕ) (m : Memory) (v : Tree) → m r ≡ some v → answer (xs ++ (say r ∷ [])) m ≡ some v

@@ -21,7 +21,7 @@ use Rattle.model.specs.Sessions.{Outcome, ended, stopped, attempt, View, State
 use Rattle.model.specs.SessionLaw.{Taken}
 use Rattle.model.proofs.Lists.{every-join}
 use Rattle.model.proofs.Machine.{some-inj, ran-inj, never-ran, eqb-iff}
-use Rattle.model.proofs.Sheets.{Fed, fed-split}
+use Rattle.model.proofs.Feeding.{Fed, fed-split}
 use Rattle.model.proofs.Chosen.{reading-total}
 use Rattle.model.proofs.Fitting.{Fitting}
 use Rattle.model.proofs.Actors.{Actor, told as told-of, Ready, cost, remaining, True-log, after-call, Well, Taken as Taken-by, take-call}

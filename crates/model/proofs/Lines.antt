@@ -25,7 +25,8 @@ use Rattle.model.proofs.Sheets.{gives, hears, says, Plan, done, then, plan-app
 use Rattle.model.proofs.Agree.{reads-all}
 use Rattle.model.proofs.Grounds.{Explained, Good, good-act, good-meet, meet-next}
 use Rattle.model.proofs.Filling.{Grew, grew-none, grew-then, grew-one, grew-meet, good-set, good-fresh, Went, Made, made}
-use Rattle.model.proofs.Turning.{None, went-settled}
+use Rattle.model.proofs.Marked.{None}
+use Rattle.model.proofs.Turning.{went-settled}
 
 -- every part that a register is for is known
 pub sheet-has : (s : Role) (Γ : Memory) → Good s Γ (s .next) None → All (λ r t. Has (s .known) t) Γ

@@ -1,4 +1,4 @@
--- Courses and lives: a course's terms are the holdings of its life, where each name is made before it stands elsewhere.
+-- The terms that a role took, and the names that it made, are the holdings of its life.
 use Prim.Native.Nat.{ℕ}
 use mathlib.Core.Bool.{Bool, true, false, cond}
 use mathlib.Core.List.{List, [], _∷_, _++_}
@@ -17,7 +17,7 @@ use Rattle.model.proofs.Lists.{some-left, some-right, some-map, every-some}
 use Rattle.model.proofs.Entries.{entry, knows-has, has-old, has-new, has-split}
 use Rattle.model.proofs.Lived.{Seen, Lived}
 use Rattle.model.proofs.Lives.{lived}
-use Rattle.model.proofs.Courses.{said-went, names-are}
+use Rattle.model.proofs.Adding.{said-went, names-are}
 use Rattle.model.proofs.Scripts.{Script, started, hearing, saying, script-went}
 
 pub some-split : {A : Type 0} (Q : A → Type 0) (xs ys : List A) → Some-of Q (xs ++ ys) → Some-of Q xs ⊎ Some-of Q ys

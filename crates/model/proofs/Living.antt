@@ -16,8 +16,7 @@ use Rattle.model.specs.Specifications.{Specification, message, Duty, begin, sp
 use Rattle.model.specs.Programs.{nobody-yet, next-role, given, takes, new-names, names}
 use Rattle.model.proofs.Lists.{firsts-append}
 use Rattle.model.proofs.Machine.{some-inj, no-some}
-use Rattle.model.proofs.Sheets.{Fed}
-use Rattle.model.proofs.Standing.{fed-firsts}
+use Rattle.model.proofs.Feeding.{Fed, fed-firsts}
 use Rattle.model.proofs.Scripts.{Script, started, hearing, saying}
 use Rattle.model.proofs.Fitting.{Fit}
 use Rattle.model.proofs.Linked.{some-firsts, script-holdings}

@@ -18,9 +18,9 @@ use Rattle.model.specs.ProgramLaw.{from, targets, sources, filled, Distinct, N
 use Rattle.model.proofs.Machine.{Below, reads-parts}
 use Rattle.model.proofs.Sheets.{Move, gives, hears, news, says, sames, makes as makes-it, splits, unlocks, Plan, done, then, move-keeps}
 use Rattle.model.proofs.Grounds.{Good}
-use Rattle.model.proofs.Turning.{None}
+use Rattle.model.proofs.Marked.{None}
 use Rattle.model.proofs.Lines.{good-nobody}
-use Rattle.model.proofs.Courses.{line-is}
+use Rattle.model.proofs.Adding.{line-is}
 use Rattle.model.proofs.Fitting.{went-duty, Fitting, all-fitting}
 use Rattle.model.proofs.Filled.{length-from, distinct-from, In-order, actions-of, filled-numbered, reads-earlier}
 

@@ -11,9 +11,9 @@ use Rattle.model.specs.Lives.{Life, starts, hears, says}
 use Rattle.model.specs.Runs.{Memory, empty}
 use Rattle.model.specs.Programs.{nobody-yet, given, new-names}
 use Rattle.model.proofs.Filling.{grew-then, Went}
-use Rattle.model.proofs.Turning.{None}
+use Rattle.model.proofs.Marked.{None}
 use Rattle.model.proofs.Lines.{went-heard, went-start}
-use Rattle.model.proofs.Courses.{said-went, names-are}
+use Rattle.model.proofs.Adding.{said-went, names-are}
 
 pub data Script (P : Party) : Life → Role → List Tree → List ℕ → Type 0 where
   started : (ts : List Tree) → Every Formed ts → Script P (starts ts) (start P ts) (given P ts) []

@@ -21,7 +21,7 @@ use Rattle.model.proofs.Resting.{saturated}
 use Rattle.model.proofs.Machine.{some-inj, reads-parts}
 use Rattle.model.proofs.Sheets.{Facts}
 use Rattle.model.proofs.Grounds.{Explained, Good, held-every}
-use Rattle.model.proofs.Turning.{None}
+use Rattle.model.proofs.Marked.{None}
 use Rattle.model.proofs.Lines.{good-done-at}
 
 pub can-each : (P : Party) (es : List Entry) (ts : Trees) → ((t : Tree) → t among ts → T (can P t es)) → T (can-all P ts es)

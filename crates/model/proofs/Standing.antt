@@ -1,11 +1,11 @@
 -- How a role stands after lines that were taken: its list, its memory and its holdings with their values.
 use Prim.Native.Nat.{ℕ, _+_, _≤_}
-use mathlib.Core.List.{List, [], _∷_, _++_}
+use mathlib.Core.List.{List, _++_}
 use mathlib.Core.Logic.{_↔_, inl, inr}
 use mathlib.Core.Option.{some}
 use mathlib.Core.Path.{_≡_, refl, ap, subst, subst⁻¹, _∙_}
 use native.Mathlib.Omega.{arith}
-use Rattle.model.specs.Lists.{Every, Some-of, zip, firsts}
+use Rattle.model.specs.Lists.{Every, zip, firsts}
 use Rattle.model.specs.Trees.{Tree, leaf}
 use Rattle.model.specs.Deduction.{Party, Derives}
 use Rattle.model.specs.Roles.{Role}
@@ -15,72 +15,21 @@ use Rattle.model.specs.Readings.{Reading}
 use Rattle.model.specs.Holdings.{Stock, nothing-held, add, Term-of, Value-of, Reads-as, Readable}
 use Rattle.model.specs.Programs.{nobody-yet}
 use Rattle.model.specs.Costs.{bills}
-use Rattle.model.proofs.Lists.{every-left, every-right, every-join, some-left, some-right, some-map, every-map, every-some, firsts-append}
+use Rattle.model.proofs.Lists.{every-left, every-right, every-join, every-map, every-some, firsts-append}
 use Rattle.model.proofs.Deduction.{derives-map}
 use Rattle.model.proofs.Machine.{no-some, All, Below, _⊑_}
-use Rattle.model.proofs.Sheets.{Plan, done, plan-append, plan-keeps, Facts, facts-join, facts-keep, Rel, Fed, Holds, Any, After, plan-after}
+use Rattle.model.proofs.Sheets.{Plan, done, plan-append, plan-keeps, Facts, facts-join, facts-keep, Rel}
+use Rattle.model.proofs.Feeding.{Fed, fed-firsts, fed-pairs, pairs-fed}
+use Rattle.model.proofs.After.{Holds, Any, After, plan-after}
 use Rattle.model.proofs.Agree.{plan-derives, Agrees, plan-agrees}
 use Rattle.model.proofs.Values.{plan-values}
 use Rattle.model.proofs.Unbroken.{Unbroken, plan-unbroken, Whole, plan-whole}
 use Rattle.model.proofs.Grounds.{Good}
 use Rattle.model.proofs.Filling.{Went}
-use Rattle.model.proofs.Turning.{None}
+use Rattle.model.proofs.Marked.{None}
 use Rattle.model.proofs.Lines.{sheet-has, good-nobody}
 use Rattle.model.proofs.Sound.{R, read-register, sound}
-
--- pairs: a term with its value, a name with its number
-module _ {A B : Type 0} where
-  pub fed-firsts : (Q : A → B → Type 0) (xs : List A) (ys rest : List B) → Fed Q xs ys rest → firsts (zip xs ys) ≡ xs
-  fed-firsts Q [] ys rest h = refl
-  fed-firsts Q (x ∷ xs) [] rest h = elim h [ ]
-  fed-firsts Q (x ∷ xs) (y ∷ ys) rest h = ap (λ l. x ∷ l) (fed-firsts Q xs ys rest (h .1))
-
-  pub fed-zip : (Q W : A → B → Type 0) (xs : List A) (ys rest : List B) → Fed Q xs ys rest
-      → ((x : A) (y : B) → Some-of (λ p. (x ≡ p .0) × (y ≡ p .1)) (zip xs ys) → W x y) → Fed W xs ys rest
-  fed-zip Q W [] ys rest h f = h
-  fed-zip Q W (x ∷ xs) [] rest h f = elim h [ ]
-  fed-zip Q W (x ∷ xs) (y ∷ ys) rest h f = (f x y (inl (refl, refl)), fed-zip Q W xs ys rest (h .1) (λ a b i. f a b (inr i)))
-
-  pub fed-left : (W : A → Type 0) (xs : List A) (ys rest : List B) → Fed (λ x y. W x) xs ys rest → Every W xs
-  fed-left W [] ys rest h = tt
-  fed-left W (x ∷ xs) [] rest h = elim h [ ]
-  fed-left W (x ∷ xs) (y ∷ ys) rest h = (h .0, fed-left W xs ys rest (h .1))
-
-  pub fed-pairs : (Q : A → B → Type 0) (xs : List A) (ys rest : List B) → Fed Q xs ys rest → Every (λ p. Q (p .0) (p .1)) (zip xs ys)
-  fed-pairs Q [] ys rest h = tt
-  fed-pairs Q (x ∷ xs) [] rest h = elim h [ ]
-  fed-pairs Q (x ∷ xs) (y ∷ ys) rest h = (h .0, fed-pairs Q xs ys rest (h .1))
-
-  pub pairs-fed : (Q Q′ : A → B → Type 0) (xs : List A) (ys rest : List B) → Fed Q xs ys rest → Every (λ p. Q′ (p .0) (p .1)) (zip xs ys) → Fed Q′ xs ys rest
-  pairs-fed Q Q′ [] ys rest h k = h
-  pairs-fed Q Q′ (x ∷ xs) [] rest h k = elim h [ ]
-  pairs-fed Q Q′ (x ∷ xs) (y ∷ ys) rest h k = (k .0, pairs-fed Q Q′ xs ys rest (h .1) (k .1))
-
-module _ (h : Stock) (is vs : List Tree) (ns ks : List ℕ) where
-  pub term-more : (t : Tree) → Term-of h t → Term-of (add h is vs ns ks) t
-  term-more t (inl i) = inl (some-left _ (h .taken) (zip is vs) i)
-  term-more t (inr i) = inr (some-left _ (h .made) (zip ns ks) i)
-
-  pub value-more : (t : Tree) → Value-of h t → Value-of (add h is vs ns ks) t
-  value-more t (inl i) = inl (some-left _ (h .taken) (zip is vs) i)
-  value-more t (inr i) = inr (some-left _ (h .made) (zip ns ks) i)
-
-  module _ (vs′ : List Tree) (ks′ : List ℕ) (Q : Tree → Tree → Type 0) (N : ℕ → ℕ → Type 0) (fi : Fed Q is vs vs′) (fn : Fed N ns ks ks′) where
-    pub terms-in : Every (Term-of (add h is vs ns ks)) is
-    terms-in = fed-left _ is vs vs′ (fed-zip Q (λ t v. Term-of (add h is vs ns ks) t) is vs vs′ fi
-        (λ x y i. inl (some-right _ (h .taken) (zip is vs) (some-map _ (λ p. x ≡ p .0) (λ p e. e .0) (zip is vs) i))))
-
-    pub names-in : Every (λ a. Term-of (add h is vs ns ks) (leaf a)) ns
-    names-in = fed-left _ ns ks ks′ (fed-zip N (λ a k. Term-of (add h is vs ns ks) (leaf a)) ns ks ks′ fn
-        (λ x y i. inr (some-right _ (h .made) (zip ns ks) (some-map _ (λ p. leaf x ≡ leaf (p .0)) (λ p e. ap leaf (e .0)) (zip ns ks) i))))
-
-    pub values-in : Fed (λ t v. Value-of (add h is vs ns ks) v) is vs vs′
-    values-in = fed-zip Q (λ t v. Value-of (add h is vs ns ks) v) is vs vs′ fi
-        (λ x y i. inl (some-right _ (h .taken) (zip is vs) (some-map _ (λ p. y ≡ p .1) (λ p e. e .1) (zip is vs) i)))
-
-    pub numbers-in : Fed (λ a k. Value-of (add h is vs ns ks) (leaf k)) ns ks ks′
-    numbers-in = fed-zip N (λ a k. Value-of (add h is vs ns ks) (leaf k)) ns ks ks′ fn
-        (λ x y i. inr (some-right _ (h .made) (zip ns ks) (some-map _ (λ p. leaf y ≡ leaf (p .1)) (λ p e. ap leaf (e .1)) (zip ns ks) i)))
+use Rattle.model.proofs.Holdings.{term-more, value-more, terms-in, names-in, values-in, numbers-in}
 
 -- how a role stands, with the sheet `Γ` of its registers, the memory `m` and its holdings
 pub record Stands (P : Party) (s : Role) (Γ m : Memory) (h : Stock) : Type 0 where

@@ -18,10 +18,10 @@ use Rattle.model.specs.Programs.{next-role, given, line, takes, Stage, turn-of
 use Rattle.model.specs.Sessions.{Outcome, ended, stopped, attempt, State, Answer, declined, number-of, rest-of-stages, to-begin, to-say, to-hear, valid, gives, concluded, machine-for, tried}
 use Rattle.model.specs.SessionLaw.{Taken, Refused}
 use Rattle.model.proofs.Machine.{some-inj, never-ran}
-use Rattle.model.proofs.Sheets.{Fed}
+use Rattle.model.proofs.Feeding.{Fed}
 use Rattle.model.proofs.Unbroken.{Unbroken}
 use Rattle.model.proofs.Grounds.{Good}
-use Rattle.model.proofs.Turning.{None}
+use Rattle.model.proofs.Marked.{None}
 use Rattle.model.proofs.Fitting.{Fit}
 use Rattle.model.proofs.Speaking.{No-mismatch}
 use Rattle.model.proofs.Counts.{Gives, start-gives, start-first, hear-first}

@@ -1,93 +1,28 @@
 -- Settling on sheets: each turn explains the entry that it settles.
-use Prim.Native.Nat.{ℕ, _+_, zero, suc, _<_}
+use Prim.Native.Nat.{ℕ, _+_, zero, suc}
 use mathlib.Core.Bool.{Bool, true, false, _&&_, _||_, not, cond}
 use mathlib.Core.List.{List, [], _∷_, _++_}
-use mathlib.Core.Logic.{_⊎_, inl, inr}
+use mathlib.Core.Logic.{inl}
 use mathlib.Core.Option.{Option, none as nothing, some}
 use mathlib.Core.Path.{_≡_, refl, ap, subst, sym, subst⁻¹, _∙_}
 use native.Mathlib.Omega.{arith}
-use lib.Dec.{eqb, T, eqb→eq, not-T}
+use lib.Dec.{T, not-T}
 use Rattle.model.specs.Lists.{Every}
 use Rattle.model.specs.Trees.{Head, tupled, crypted, applied, Tree, leaf, node, Trees, none, more, crypt, _among_}
 use Rattle.model.specs.Deduction.{Party, may, opens}
-use Rattle.model.specs.Roles.{Act, same, make, split, unlock, Entry, Role, act, fill, meet, Composed, got, lacks, Composed-all, got-all, lacks-one, compose, compose-all, none-made, meet-all, count, mark, marked, can-all, due-parts, due, first-due, open-parts, open-text, check-again, settle-node, settle, settle-all, unsettled, settled}
-use Rattle.model.specs.Entries.{Has, Held}
+use Rattle.model.specs.Roles.{Act, same, make, split, unlock, Entry, Role, act, fill, meet, Composed, got, lacks, Composed-all, got-all, lacks-one, compose, compose-all, none-made, meet-all, count, marked, can-all, due-parts, due, first-due, open-parts, open-text, check-again, settle-node, settle, settle-all, unsettled, settled}
+use Rattle.model.specs.Entries.{Has}
 use Rattle.model.specs.Runs.{Memory, set, puts, reads}
-use Rattle.model.proofs.Tests.{or-cases, and-left as first, and-right as second}
+use Rattle.model.proofs.Tests.{and-left as first, and-right as second}
 use Rattle.model.proofs.Deduction.{Composes}
-use Rattle.model.proofs.Entries.{every-both}
 use Rattle.model.proofs.Composing.{composes-map, can-composes, can-all-composes, Base, Any-tree, Good as Sound-one, Good-all as Sound-all, good, good-all}
-use Rattle.model.proofs.Marking.{Is, is-every, has-mark, mark-every, mark-ascends, mark-once}
+use Rattle.model.proofs.Marking.{Is, is-every, has-mark}
 use Rattle.model.proofs.Resting.{FirstDue, first-is}
-use Rattle.model.proofs.Machine.{some-inj, set-same, ⊑-set, ⊑-puts, reads-more, ⊑-reads, regs, reads-puts, regs-count}
+use Rattle.model.proofs.Machine.{set-same, ⊑-set, ⊑-puts, reads-more, ⊑-reads, regs, reads-puts, regs-count}
 use Rattle.model.proofs.Sheets.{sames, makes, splits, unlocks, facts-left, facts-right}
 use Rattle.model.proofs.Grounds.{Explained, Good, good-same, good-meet, meet-next, good-meet-all}
 use Rattle.model.proofs.Filling.{Grew, grew-none, grew-then, grew-one, grew-keeps, grew-meet, grew-meet-all, good-set, good-puts, Went, Made, Made-all, made, made-all}
-
--- no register lacks its explanation
-abbrev pub None : ℕ → Type 0
-None q = ⊥
-
-abbrev pub Only : ℕ → ℕ → Type 0
-Only r q = q ≡ r
-
--- marking
-mark-both : (X : Tree → ℕ → Type 0) (r : ℕ) (es : List Entry) → Every (λ e. X (e .term) (e .at)) es → Every (λ e. X (e .term) (e .at)) (mark r es)
-mark-both X r [] a = tt
-mark-both X r (e ∷ es) a = (a .0, mark-both X r es (a .1))
-
-mark-held : (r : ℕ) (es : List Entry) (t : Tree) (q : ℕ) → Held es t q → Held (mark r es) t q
-mark-held r [] t q h = h
-mark-held r (e ∷ es) t q (inl p) = inl p
-mark-held r (e ∷ es) t q (inr h) = inr (mark-held r es t q h)
-
-mark-why : (E : ℕ → Tree → Type 0) (r : ℕ) (es : List Entry) → Every (λ e. T (e .settled) → None (e .at) ⊎ E (e .at) (e .term)) es
-    → Every (λ e. T (e .settled) → Only r (e .at) ⊎ E (e .at) (e .term)) (mark r es)
-mark-why E r [] a = tt
-mark-why E r (e ∷ es) a = (head, mark-why E r es (a .1))
-  where
-    head : T (e .settled || eqb r (e .at)) → Only r (e .at) ⊎ E (e .at) (e .term)
-    head c = elim (or-cases (e .settled) (eqb r (e .at)) c) [
-      | inl s ↦ elim (a .0 s) [ inl x ↦ absurd x | inr y ↦ inr y ]
-      | inr q ↦ inl (sym (eqb→eq r (e .at) q))
-    ]
-
-pub good-mark : (s : Role) (Γ : Memory) (k : ℕ) (r : ℕ) → Good s Γ k None → Good (marked r s) Γ k (Only r)
-good-mark s Γ k r g =
-    record {
-      bound = g .bound;
-      upto = g .upto;
-      low = mark-every r (λ q. q < k) (s .known) (g .low);
-      ascends = mark-ascends r (s .known) (g .ascends);
-      once = mark-once r (s .known) (g .once);
-      entries = mark-both (λ t q. Γ q ≡ some t) r (s .known) (g .entries);
-      met = λ q t h e. let x = g .met q t h e in (x .0, mark-held r (s .known) t (x .0) (x .1), x .2);
-      explained = mark-why (λ q t. Explained Γ (s .acts) q t) r (s .known) (g .explained);
-      formed = g .formed;
-    }
-
--- the marked entry is explained
-pub good-done : (s : Role) (Γ : Memory) (k : ℕ) (r : ℕ) (t : Tree) → Good s Γ k (Only r) → Γ r ≡ some t → Explained Γ (s .acts) r t → Good s Γ k None
-good-done s Γ k r t g e x =
-    record {
-      bound = g .bound;
-      upto = g .upto;
-      low = g .low;
-      ascends = g .ascends;
-      once = g .once;
-      entries = g .entries;
-      met = g .met;
-      explained = every-both (λ e. T (e .settled) → Only r (e .at) ⊎ Explained Γ (s .acts) (e .at) (e .term)) (λ e. Γ (e .at) ≡ some (e .term))
-          (λ e. T (e .settled) → None (e .at) ⊎ Explained Γ (s .acts) (e .at) (e .term)) one (s .known) (g .explained) (g .entries);
-      formed = g .formed;
-    }
-  where
-    one : (y : Entry) → (T (y .settled) → Only r (y .at) ⊎ Explained Γ (s .acts) (y .at) (y .term)) → Γ (y .at) ≡ some (y .term)
-        → T (y .settled) → None (y .at) ⊎ Explained Γ (s .acts) (y .at) (y .term)
-    one y f p c = elim (f c) [
-      | inl q ↦ inr (subst (λ u. Explained Γ (s .acts) (y .at) u) (some-inj (sym e ∙ ap Γ (sym q) ∙ p)) (subst⁻¹ (λ z. Explained Γ (s .acts) z t) q x))
-      | inr z ↦ inr z
-    ]
+use Rattle.model.proofs.Marked.{None, Only, good-mark, good-done}
 
 pub meet-all-next : (ts : Trees) (k : ℕ) (s : Role) → meet-all ts k s .next ≡ s .next
 meet-all-next none k s = refl

@@ -10,8 +10,9 @@ use Rattle.model.specs.Deduction.{Party}
 use Rattle.model.specs.Roles.{Act, new, say, same, make, split, unlock, count}
 use Rattle.model.specs.Runs.{Memory, Fault, mismatch, full, invalid, broken, Machine, Result, ran, refused, need, need-all, check, take-input, pay, take-number, open-up, open-crypt, step, and-on, exec}
 use Rattle.model.proofs.Machine.{Below, did}
-use Rattle.model.proofs.Sheets.{Move, gives, hears, news, says, sames, makes, splits, unlocks, Plan, done, then, move-keeps, Rel, rel-reads, Fed, fed-split, Any, move-after}
-use Rattle.model.proofs.Values.{fed-rest}
+use Rattle.model.proofs.Sheets.{Move, gives, hears, news, says, sames, makes, splits, unlocks, Plan, done, then, move-keeps, Rel, rel-reads}
+use Rattle.model.proofs.Feeding.{Fed, fed-split, fed-rest}
+use Rattle.model.proofs.After.{Any, move-after}
 
 abbrev pub Unbroken : Result → Type 0
 Unbroken (ran M) = Unit {0}

@@ -1,20 +1,16 @@
 -- Every value in a register can be derived from the values that came in and the atoms made.
 use Prim.Native.Nat.{ℕ}
 use mathlib.Core.List.{List, [], _∷_}
-use mathlib.Core.Path.{_≡_, subst, sym, subst⁻¹, _∙_}
+use mathlib.Core.Path.{_≡_, subst, subst⁻¹}
 use Rattle.model.specs.Trees.{Tree, leaf, node}
 use Rattle.model.specs.Deduction.{Party, Derives, held, build, part, text}
 use Rattle.model.specs.Roles.{Act}
 use Rattle.model.specs.Runs.{Memory, Machine, ran, exec}
 use Rattle.model.proofs.Machine.{ran-inj, All, all-set, all-puts, Below, ran-split, Did, did}
-use Rattle.model.proofs.Sheets.{Move, gives, hears, news, says, sames, makes, splits, unlocks, Plan, done, then, move-keeps, Rel, Fed, fed-split, Any, move-after}
+use Rattle.model.proofs.Sheets.{Move, gives, hears, news, says, sames, makes, splits, unlocks, Plan, done, then, move-keeps, Rel}
+use Rattle.model.proofs.Feeding.{Fed, fed-split, fed-rest}
+use Rattle.model.proofs.After.{Any, move-after}
 use Rattle.model.proofs.Agree.{reads-all}
-
--- what is left does not depend on the relation
-pub fed-rest : {A B : Type 0} (Q Q′ : A → B → Type 0) (xs : List A) (ys a b : List B) → Fed Q xs ys a → Fed Q′ xs ys b → a ≡ b
-fed-rest Q Q′ [] ys a b h k = sym h ∙ k
-fed-rest Q Q′ (x ∷ xs) [] a b h k = elim h [ ]
-fed-rest Q Q′ (x ∷ xs) (y ∷ ys) a b h k = fed-rest Q Q′ xs ys a b (h .1) (k .1)
 
 module _ (P : Party) (H : Tree → Type 0) where
   abbrev In : {A : Type 0} → A → Tree → Type 0

@@ -12,7 +12,7 @@ use Rattle.model.specs.Programs.{leaves, line, new-names}
 use Rattle.model.proofs.Lists.{rest-append}
 use Rattle.model.proofs.Grounds.{Good}
 use Rattle.model.proofs.Filling.{Grew}
-use Rattle.model.proofs.Turning.{None}
+use Rattle.model.proofs.Marked.{None}
 use Rattle.model.proofs.Lines.{Spoken, went-said}
 
 module _ (P : Party) where
