@@ -8,7 +8,7 @@ use lib.Dec.{T}
 use Rattle.model.specs.Trees.{Tree, Within}
 use Rattle.model.specs.Deduction.{Party, Derives, build}
 use Rattle.model.specs.Roles.{say, Role, act, Composed, got, lacks, compose, can, spoke, failed, say-composed, said}
-use Rattle.model.specs.Entries.{Has, Ascends, Once, Below}
+use Rattle.model.specs.Entries.{Has}
 use Rattle.model.specs.Lives.{Life, starts, hears, says, Holdings, New, Disciplined, after-hear, spoken, after-say, run}
 use Rattle.model.proofs.Deduction.{Composes, known, compose as built, complete}
 use Rattle.model.proofs.Composing.{can-composes, composes-can, Good}
@@ -46,10 +46,6 @@ lived-to P (says l makes t) d = go (run P l) (lived-to P l (d .0))
 module _ (P : Party) (l : Life) (disciplined : Disciplined l) (s : Role) (ran : run P l ≡ some s) where
   pub lived : Lived P l s
   lived = subst (LivedTo P l) ran (lived-to P l disciplined)
-
-  -- the known list has each term once, in register order
-  pub known-list : Once (s .known) × Ascends (s .known) × Below (s .known) (s .next)
-  known-list = (lived .inv .once, lived .inv .ascends, lived .inv .below)
 
   -- what can be composed without making names is what is derivable
   pub can-derivable : (u : Tree) → T (can P u (s .known)) ↔ Derives P (Holdings l) u

@@ -4,7 +4,7 @@ use mathlib.Core.Bool.{Bool, true, false, _&&_, not, cond}
 use mathlib.Core.List.{List, [], _∷_}
 use mathlib.Core.Logic.{_⊎_, _↔_, inl, inr, Iff·rfl}
 use mathlib.Core.Option.{Option, none as nothing, some}
-use mathlib.Core.Path.{_≡_, refl, subst⁻¹}
+use mathlib.Core.Path.{refl, subst⁻¹}
 use native.Mathlib.Omega.{arith}
 use lib.Dec.{T}
 use Rattle.model.specs.Lists.{Every}
@@ -39,15 +39,6 @@ module _ (P : Party) where
       go true q o k = (inl refl, q .0 tt)
       go false q (some x) k = (inr (k .0), k .1)
       go false q nothing k = (q .1, k)
-
-  pub none-first : (es rest : List Entry) → NoneDue es rest → first-due P es rest ≡ nothing
-  unfolding first-due
-  none-first es [] a = refl
-  none-first es (e ∷ rest) a = go (due P es e) (a .0) (none-first es rest (a .1))
-    where
-      go : (b : Bool) → ¬ T b → first-due P es rest ≡ nothing → cond b (some e) (first-due P es rest) ≡ nothing
-      go true f p = absurd (f tt)
-      go false f p = p
 
   -- with nothing left to settle, nothing is due
   rest-due : (es : List Entry) (e : Entry) → cond (e .settled) 0 (size (e .term)) ≤ 0 → ¬ T (due P es e)
@@ -134,9 +125,6 @@ module _ (P : Party) (H S : Tree → Type 0) (whole : Whole S) where
   pub settled-rests : (s : Role) → Kept P H S s → Rested s (settled P s)
   unfolding settled
   settled-rests s v = rested (unsettled P (s .known)) s v (omega arith)
-
-  pub settled-none-due : (s : Role) → Kept P H S s → first-due P ((settled P s) .known) ((settled P s) .known) ≡ nothing
-  settled-none-due s v = none-first P _ _ (settled-rests s v .none-due)
 
   pub settled-saturated : (s : Role) → Kept P H S s → Saturated P (Has ((settled P s) .known))
   settled-saturated s v = let k = settled-rests s v in saturated P ((settled P s) .known) (k .inv .done) (k .none-due)

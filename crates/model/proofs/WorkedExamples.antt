@@ -5,7 +5,7 @@ use mathlib.Core.Logic.{inl, inr}
 use mathlib.Core.Path.{_≡_, refl, subst}
 use native.Mathlib.Omega.{arith}
 use lib.Dec.{T}
-use Rattle.model.specs.Trees.{Head, tupled, crypted, applied, Tree, leaf, node, Trees, none, more, crypt, _among_, size}
+use Rattle.model.specs.Trees.{Head, tupled, crypted, applied, Tree, leaf, node, Trees, crypt, _among_, size}
 use Rattle.model.specs.Deduction.{Party, opens, Derives, held, build, text}
 use Rattle.model.specs.Roles.{compose, can, due-parts, due, first-due, open-parts, open-text, check-again, settle-node, settle, settle-all, unsettled, settled, give-all, start, heard, said}
 use Rattle.model.specs.Lives.{starts, hears, Holdings}
