@@ -56,5 +56,6 @@ pub mod Fair
 pub mod RefusalLaw
 pub mod SessionLaw
 pub mod WorkedExamples
+pub mod OrderExamples
 pub mod Narration
 pub mod NewNames

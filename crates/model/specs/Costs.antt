@@ -6,7 +6,7 @@ use Rattle.model.specs.Trees.{Tree}
 use Rattle.model.specs.Roles.{Act, give, new, hear, say, same, make, split, unlock}
 use Rattle.model.specs.Runs.{Memory, empty, Result, ran, refused, exec}
 
--- the costs of what actions build, as a reading of a sheet gives it
+-- the costs of what actions make or build: `Γ` tells which term a register is for, `R` the term's reading
 module _ (c : Tree → ℕ) (R : Tree → Tree) where
   abbrev pub price : Option Tree → ℕ
   price nothing = 0

@@ -12,7 +12,7 @@ abbrev pub Some-of : {A : Type 0} → (A → Type 0) → List A → Type 0
 Some-of Q [] = ⊥
 Some-of Q (x ∷ xs) = Q x ⊎ Some-of Q xs
 
--- pairs: a term with its value, a name with its number
+-- two lists side by side, and the first of each pair
 module _ {A B : Type 0} where
   abbrev pub zip : List A → List B → List (A × B)
   zip [] ys = []

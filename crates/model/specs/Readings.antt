@@ -5,7 +5,7 @@ use lib.Dec.{T}
 use Rattle.model.specs.Trees.{Head, applied, Tree, leaf, node, Trees, none, more, crypt, _among_, map-trees}
 use Rattle.model.specs.Deduction.{Party, may, opens, Derives}
 
--- what a party holds lets it see through a compound
+-- a compound is open to a party that holds `H`: it shows its parts, its key derives, or the party can make it again; any other is closed
 pub data Open-to (P : Party) (H : Tree → Type 0) : Tree → Type 0 where
   shows : {h : Head} {ts : Trees} → T (opens P h) → Open-to P H (node h ts)
   unlocks : {t k : Tree} → Derives P H k → Open-to P H (crypt t k)
@@ -15,7 +15,7 @@ pub data Open-to (P : Party) (H : Tree → Type 0) : Tree → Type 0 where
 abbrev pub Reading : Party → (Tree → Type 0) → (Tree → Tree) → Type 0
 Reading P H R = (h : Head) (ts : Trees) → Open-to P H (node h ts) → R (node h ts) ≡ node h (map-trees R ts)
 
--- such is the reading of a choice for the names
+-- a choice for the names alone reads every compound from its parts
 module _ (ρ : ℕ → Tree) where
   unfoldable mutual
     pub reading-of : Tree → Tree
