@@ -57,6 +57,7 @@ narrated =
       out-of-turn = refl;
       otherwise-refused = refl;
       misheard = refl;
+      other-kind = refl;
       explained = refl;
       explained-once = refl;
     }

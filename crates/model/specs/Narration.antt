@@ -5,7 +5,7 @@ use mathlib.Core.List.{List, [], _∷_}
 use mathlib.Core.Option.{none as nothing, some}
 use mathlib.Core.Path.{_≡_}
 use lib.Dec.{eqb, leb}
-use Rattle.model.specs.Trees.{crypted, applied, Tree, leaf, node, none, more, crypt}
+use Rattle.model.specs.Trees.{tupled, crypted, applied, Tree, leaf, node, none, more, crypt}
 use Rattle.model.specs.Roles.{give, new, hear as hear-it, say as say-it, same, make, unlock}
 use Rattle.model.specs.Readings.{reading-of}
 use Rattle.model.specs.Specifications.{Specification}
@@ -59,6 +59,23 @@ committing =
 abbrev pub committed : ℕ → List Event → List Answer
 committed space es = answers one-each (new-runs committing space) es
 
+-- role 0 says a pair of equals
+abbrev pub pair : Tree → Tree → Tree
+pair a b = node tupled (more a (more b none))
+
+abbrev pub twinning : Specification
+twinning =
+    record {
+      roles = 2;
+      party = λ r. record { secret = λ f. false; one-way = λ f. false; right = λ f. false };
+      knows = λ r. [];
+      barred = λ n. false;
+      lines = record { sender = 0; receiver = 1; message = pair (leaf 3) (leaf 3) } ∷ [];
+    }
+
+abbrev pub twinned : ℕ → List Event → List Answer
+twinned space es = answers one-each (new-runs twinning space) es
+
 pub record Narrated : Type 0 where
   pub accepted : Accepted pairing
   pub role-m : program pairing 0 ≡ (0, give 0) ∷ (1, new 1) ∷ (1, say-it 1) ∷ (2, hear-it 2) ∷ (2, unlock 3 2 0) ∷ (2, same 3 1) ∷ []
@@ -81,6 +98,9 @@ pub record Narrated : Type 0 where
   -- a handle that is not valid, no ciphertext, another key
   pub misheard : paired 1 (begin 0 (some k ∷ []) (5 ∷ []) ∷ say 0 ∷ hear 0 nothing ∷ hear 0 (some (leaf 5)) ∷ hear 0 (some (crypt (leaf 5) (leaf 71))) ∷ [])
       ≡ taken nothing ∷ taken (some (leaf 5)) ∷ declined 12 3 ∷ declined 14 4 ∷ declined 14 4 ∷ []
+  -- for the pair of equals: an application of two parts, a tuple of three, a pair of others, and one of equals
+  pub other-kind : twinned 0 (begin 1 [] [] ∷ hear 1 (some (node (applied 0) (more (leaf 5) (more (leaf 5) none)))) ∷ hear 1 (some (node tupled (more (leaf 5) (more (leaf 5) (more (leaf 5) none))))) ∷ hear 1 (some (pair (leaf 5) (leaf 6))) ∷ hear 1 (some (pair (leaf 5) (leaf 5))) ∷ [])
+      ≡ taken nothing ∷ declined 14 1 ∷ declined 14 1 ∷ declined 14 2 ∷ taken nothing ∷ []
   -- what was built before a refusal stays built: with one less of space there is room for one explanation of h(n) only
   pub explained : committed 4 (begin 0 [] (5 ∷ []) ∷ begin 1 [] [] ∷ say 0 ∷ hear 1 (some (h (leaf 5))) ∷ hear 1 (some (leaf 6)) ∷ hear 1 (some (leaf 5)) ∷ say 0 ∷ [])
       ≡ taken nothing ∷ taken nothing ∷ taken (some (h (leaf 5))) ∷ taken nothing ∷ declined 14 3 ∷ taken nothing ∷ taken (some (leaf 5)) ∷ []
