@@ -6,7 +6,7 @@ use mathlib.Core.Logic.{_⊎_, inl, inr}
 use mathlib.Core.Path.{_≡_, ap, sym, subst⁻¹}
 use native.Mathlib.Omega.{arith}
 use lib.Dec.{eqb, T, eqb→eq, eqb-refl}
-use Rattle.model.specs.Lists.{Every}
+use Rattle.model.specs.Lists.{Every, Some-of}
 use Rattle.model.specs.Trees.{Tree, size}
 use Rattle.model.specs.Deduction.{Party}
 use Rattle.model.specs.Roles.{Entry, mark, unsettled}
@@ -17,8 +17,7 @@ use Rattle.model.proofs.Entries.{with-one, Keeps}
 
 -- the entry itself is in the list
 abbrev pub Is : List Entry → Entry → Type 0
-Is [] e = ⊥
-Is (x ∷ es) e = (e ≡ x) ⊎ Is es e
+Is es e = Some-of (λ x. e ≡ x) es
 
 pub is-every : (X : Entry → Type 0) (es : List Entry) (e : Entry) → Every X es → Is es e → X e
 is-every X [] e a i = elim i [ ]
