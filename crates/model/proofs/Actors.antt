@@ -8,11 +8,12 @@ use Rattle.model.specs.Lists.{Every, zip, firsts}
 use Rattle.model.specs.Trees.{Tree, leaf}
 use Rattle.model.specs.Deduction.{Party}
 use Rattle.model.specs.Roles.{Role}
-use Rattle.model.specs.Runs.{Memory, Machine, ran, exec, answer}
+use Rattle.model.specs.Runs.{Memory, Machine, ran, answer}
 use Rattle.model.specs.Holdings.{Stock, add, Reads-as}
 use Rattle.model.specs.Specifications.{Duty, begin, speak, listen}
 use Rattle.model.specs.Programs.{next-role, line, takes, names}
 use Rattle.model.proofs.Lists.{firsts-append}
+use Rattle.model.proofs.Exec.{exec}
 use Rattle.model.proofs.Feeding.{Fed, fed-firsts}
 use Rattle.model.proofs.Filling.{Went}
 use Rattle.model.proofs.Marked.{None}

@@ -7,8 +7,9 @@ use native.Mathlib.Omega.{arith}
 use Rattle.model.specs.Trees.{Tree, leaf, node, Trees, none, more}
 use Rattle.model.specs.Deduction.{Party}
 use Rattle.model.specs.Roles.{Act, give, new, hear, say, same, make, split, unlock, count}
-use Rattle.model.specs.Runs.{Memory, set, puts, Machine, ran, exec}
-use Rattle.model.proofs.Machine.{ran-inj, set-same, Below, below-set, below-puts, _⊑_, ⊑-set, ⊑-puts, ⊑-reads, reads-puts, ran-split, Did, did}
+use Rattle.model.specs.Runs.{Memory, set, puts, Machine, ran}
+use Rattle.model.proofs.Machine.{ran-inj, set-same, Below, below-set, below-puts, _⊑_, ⊑-set, ⊑-puts, ⊑-reads, reads-puts, Did, did}
+use Rattle.model.proofs.Exec.{exec, ran-split}
 use Rattle.model.proofs.Sheets.{Move, gives, hears, news, says, sames, makes, splits, unlocks, Plan, done, then, move-keeps, plan-keeps, Facts, fact-keeps, Rel, Each, rel-set, rel-puts}
 use Rattle.model.proofs.Feeding.{Fed, fed-map, fed-join}
 

@@ -11,12 +11,13 @@ use Rattle.model.specs.Lists.{Every}
 use Rattle.model.specs.Trees.{Head, tupled, crypted, applied, Tree, leaf, node, Trees, none, more, eq-tree, crypt, _among_, map-trees, Shape}
 use Rattle.model.specs.Deduction.{Party, may, Derives, held, build, part, text}
 use Rattle.model.specs.Roles.{Act, same, make, split, unlock, count}
-use Rattle.model.specs.Runs.{Memory, set, puts, reads, mismatch, full, invalid, broken, Machine, Result, ran, refused, need, need-all, check, with-memory, take-input, pay, take-number, open-up, open-crypt, step, and-on, exec}
+use Rattle.model.specs.Runs.{Memory, set, puts, reads, mismatch, full, invalid, broken, Machine, Result, ran, refused, need, need-all, check, with-memory, take-input, pay, take-number, open-up, open-crypt, step}
 use Rattle.model.specs.Readings.{Open-to, shows, unlocks as unlocks-it, rebuilds, Reading}
 use Rattle.model.specs.Costs.{price, bill, bills}
 use Rattle.model.proofs.Lists.{every-left, every-right}
 use Rattle.model.proofs.Trees.{is-eq-tree, count-map}
 use Rattle.model.proofs.Machine.{some-inj, eq-head-iff, set-same, All, all-set, all-puts, Below, _⊑_, reads-parts, gets}
+use Rattle.model.proofs.Exec.{and-on, exec}
 use Rattle.model.proofs.Sheets.{Move, gives, hears, news, says, sames, makes, splits, unlocks, Plan, done, then, move-keeps, plan-keeps, Rel, Each, rel-set, rel-puts, rel-reads}
 use Rattle.model.proofs.Feeding.{Fed, fed-split}
 

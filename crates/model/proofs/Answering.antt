@@ -10,17 +10,18 @@ use lib.ListN.{length}
 use Rattle.model.specs.Lists.{Every}
 use Rattle.model.specs.Trees.{Tree}
 use Rattle.model.specs.Roles.{Act, hear as hear-it}
-use Rattle.model.specs.Runs.{Fault, mismatch, full, invalid, broken, Machine, refused, exec}
+use Rattle.model.specs.Runs.{Fault, mismatch, full, invalid, broken, Machine, refused, Outcome, ended, stopped, attempt}
 use Rattle.model.specs.Holdings.{add, Readable}
 use Rattle.model.specs.Specifications.{Specification, message}
 use Rattle.model.specs.Programs.{given, line, takes, begins, says-line, hears-line, Stage, turn-of, stage, all-actions, all-makes}
-use Rattle.model.specs.Sessions.{Outcome, ended, stopped, attempt, State, Event, begin, say, hear, build, other, Answer, taken, declined, number-of, rest-of-stages, to-begin, to-say, to-hear, in-turn, valid, gives, news, first-actions, concluded, machine-for, tried, counts-right, handled, call}
+use Rattle.model.specs.Sessions.{State, Event, begin, say, hear, build, other, Answer, taken, declined, number-of, rest-of-stages, to-begin, to-say, to-hear, in-turn, valid, gives, news, first-actions, concluded, machine-for, tried, counts-right, handled, call}
 use Rattle.model.specs.SessionLaw.{Taken, Refused, Numbered, answered, Decided}
 use Rattle.model.proofs.Tests.{and-left}
+use Rattle.model.proofs.Exec.{exec, result-of, attempt-exec}
 use Rattle.model.proofs.Unbroken.{Whole}
 use Rattle.model.proofs.Counts.{Gives}
 use Rattle.model.proofs.Doing.{duty-whole}
-use Rattle.model.proofs.Attends.{result-of, attempt-exec, Attends, All-attend}
+use Rattle.model.proofs.Attends.{Attends, All-attend}
 use Rattle.model.proofs.Coming.{Comes, comes-next, turn-only, hears-message, begins-first, not-say, not-hear}
 use Rattle.model.proofs.Attending.{makes-first, has-numbers, brings-numbers}
 use Rattle.model.proofs.Tried.{Taken-or-14-15, valid-each, valid-until, longer, length-each, fed-counted, begins-in, hears-in, hear-fed, say-fed, begin-gives, gives-invalid, begin-acts, hear-acts, tried-taken, tried-answer}

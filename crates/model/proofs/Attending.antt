@@ -12,23 +12,24 @@ use Rattle.model.specs.Trees.{Tree}
 use Rattle.model.specs.Deduction.{Party}
 use Rattle.model.specs.Roles.{Role}
 use Rattle.model.specs.Lives.{Life, Holdings}
-use Rattle.model.specs.Runs.{Machine, ran, exec}
+use Rattle.model.specs.Runs.{Machine, ran, Outcome, ended, stopped, attempt}
 use Rattle.model.specs.Holdings.{nothing-held, Term-of, Value-of}
 use Rattle.model.specs.Specifications.{Specification, message, Duty, duties, life-on, life}
 use Rattle.model.specs.Programs.{nobody-yet, next-role, line, takes, names, Turn, Stage, turn-of, stage, stages-from, all-actions, all-makes}
-use Rattle.model.specs.Sessions.{Outcome, ended, stopped, attempt, View, State, Event, begin, say, hear, build, other, Answer, taken, declined, only, rest-of-stages, to-begin, to-say, to-hear, begins-next, in-turn, valid, gives, news, first-actions, went-on, put, concluded, machine-for, tried, counts-right, handled, call, after}
+use Rattle.model.specs.Sessions.{View, State, Event, begin, say, hear, build, other, Answer, taken, declined, only, rest-of-stages, to-begin, to-say, to-hear, begins-next, in-turn, valid, gives, news, first-actions, went-on, put, concluded, machine-for, tried, counts-right, handled, call, after}
 use Rattle.model.specs.SessionLaw.{Holds-life}
 use Rattle.model.proofs.Tests.{and-right}
 use Rattle.model.proofs.Lists.{every-join, every-map}
 use Rattle.model.proofs.Deduction.{derives-map}
 use Rattle.model.proofs.Machine.{eqb-iff}
+use Rattle.model.proofs.Exec.{exec, result-of, attempt-exec}
 use Rattle.model.proofs.Feeding.{fed-length}
 use Rattle.model.proofs.Holdings.{value-more}
 use Rattle.model.proofs.Fitting.{Fitting}
 use Rattle.model.proofs.Living.{Living, living-on, living-holds}
 use Rattle.model.proofs.Counts.{stages-news}
 use Rattle.model.proofs.Doing.{duty-done}
-use Rattle.model.proofs.Attends.{result-of, attempt-exec, Attends, All-attend}
+use Rattle.model.proofs.Attends.{Attends, All-attend}
 use Rattle.model.proofs.Coming.{Comes, only-first, comes-next, not-say, not-hear}
 
 -- a stage that was taken

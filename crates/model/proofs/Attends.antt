@@ -1,5 +1,5 @@
 -- How each run of a session stands: its role's state and the duties left.
-use Prim.Native.Nat.{ℕ, suc, _<_}
+use Prim.Native.Nat.{ℕ, _<_}
 use mathlib.Core.Bool.{Bool, true, false, cond}
 use mathlib.Core.List.{List, [], _∷_}
 use mathlib.Core.Logic.{_⊎_, inl, inr}
@@ -7,31 +7,16 @@ use mathlib.Core.Path.{_≡_, refl}
 use lib.Dec.{T, ltb}
 use lib.ListN.{length}
 use Rattle.model.specs.Lists.{Every}
-use Rattle.model.specs.Trees.{Tree}
 use Rattle.model.specs.Deduction.{Derives}
-use Rattle.model.specs.Roles.{Act, Role}
-use Rattle.model.specs.Runs.{Memory, empty, Machine, Result, ran, refused, step, and-on, exec}
+use Rattle.model.specs.Roles.{Role}
+use Rattle.model.specs.Runs.{Memory, empty}
 use Rattle.model.specs.Holdings.{Value-of}
 use Rattle.model.specs.Specifications.{Specification, message, Duty, begin as to-start, own, duties}
 use Rattle.model.specs.Programs.{nobody-yet, stages-from, stages, all-makes, Accepted}
-use Rattle.model.specs.Sessions.{Outcome, ended, stopped, attempt, View, State, new-runs, begins-next}
+use Rattle.model.specs.Sessions.{View, State, new-runs, begins-next}
 use Rattle.model.proofs.Standing.{Stands, stands-nobody}
 use Rattle.model.proofs.Fitting.{Fitting, all-fitting, role-or-nothing}
 use Rattle.model.proofs.Living.{Living}
-
-abbrev pub result-of : Outcome → Result
-result-of (ended M) = ran M
-result-of (stopped f k n) = refused f
-
--- it ends as `exec` does
-pub attempt-exec : (c : Tree → ℕ) (xs : List Act) (k : ℕ) (M : Machine) → result-of (attempt c xs k M) ≡ exec c xs M
-attempt-exec c [] k M = refl
-attempt-exec c (a ∷ rest) k M = go (step c a M) (λ N. attempt-exec c rest (suc k) N)
-  where
-    go : (x : Result) → ((N : Machine) → result-of (attempt c rest (suc k) N) ≡ exec c rest N)
-        → result-of (elim x [ ran N ↦ attempt c rest (suc k) N | refused f ↦ stopped f k (M .space) ]) ≡ and-on x (exec c rest)
-    go (ran N) f = f N
-    go (refused e) f = refl
 
 -- how a run stands; from its begin on it has a number for each name still to be made
 pub record Attends (S : Specification) (r : ℕ) (v : View) : Type 0 where

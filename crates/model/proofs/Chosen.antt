@@ -8,13 +8,14 @@ use Rattle.model.specs.Lists.{Every, firsts}
 use Rattle.model.specs.Trees.{Head, Tree, leaf, node, Trees, none, more, map-trees}
 use Rattle.model.specs.Deduction.{Party}
 use Rattle.model.specs.Roles.{Act, give, new, hear, say, same, make, split, unlock, Role}
-use Rattle.model.specs.Runs.{Memory, empty, mismatch, full, invalid, broken, Machine, Result, ran, refused, exec}
+use Rattle.model.specs.Runs.{Memory, empty, mismatch, full, invalid, broken, Machine, Result, ran, refused, Outcome, ended, stopped, attempt}
 use Rattle.model.specs.Readings.{reading-of, readings-of}
 use Rattle.model.specs.Holdings.{Stock, add, Reads-as}
 use Rattle.model.specs.Programs.{line}
 use Rattle.model.specs.Costs.{price, bill, bills, memory-of, free, sheet-of}
 use Rattle.model.proofs.Lists.{every-map}
 use Rattle.model.proofs.Machine.{no-some, _⊑_}
+use Rattle.model.proofs.Exec.{exec, result-of, attempt-exec}
 use Rattle.model.proofs.Sheets.{Plan, Rel}
 use Rattle.model.proofs.Feeding.{Fed}
 use Rattle.model.proofs.Agree.{Agrees, plan-agrees}
@@ -68,15 +69,28 @@ all-of : {A : Type 0} (xs : List A) → Every (λ x. Unit {0}) xs
 all-of [] = tt
 all-of (x ∷ xs) = (tt, all-of xs)
 
+-- the memory that a result leaves
+abbrev memory-left : Result → Memory
+memory-left (ran M) = M .mem
+memory-left (refused f) = empty
+
+memory-same : (o : Outcome) → memory-of o ≡ memory-left (result-of o)
+memory-same (ended M) = refl
+memory-same (stopped f k n) = refl
+
 pub sheet-covers : (P : Party) (xs : List Act) (n : ℕ) (Γ : Memory) (is : List Tree) (ns : List ℕ) → Plan P 0 empty xs n Γ is ns → Γ ⊑ sheet-of xs is ns
 unfolding sheet-of
 sheet-covers P xs n Γ is ns p =
-    go (exec free xs (record { mem = empty; space = 0; inputs = is; numbers = ns }))
+    subst⁻¹ (λ m. Γ ⊑ m) (memory-same (attempt free xs 0 start) ∙ ap memory-left (attempt-exec free xs 0 start))
+    (go (exec free xs start)
     (plan-agrees P free (λ t. Unit {0}) (λ t. t) (λ h ts o. ap (node h) (map-same ts)) p (λ r t e. absurd (no-some e)) Γ (λ r v e. e)
-    (λ r t e. absurd (no-some e)) (all-of is) (all-of ns) (record { mem = empty; space = 0; inputs = is; numbers = ns }) [] []
-    (λ r t e. absurd (no-some e)) (fed-self (λ t v. t ≡ v) (λ t. refl) is) (fed-self (λ a k. leaf a ≡ leaf k) (λ a. refl) ns))
+    (λ r t e. absurd (no-some e)) (all-of is) (all-of ns) start [] []
+    (λ r t e. absurd (no-some e)) (fed-self (λ t v. t ≡ v) (λ t. refl) is) (fed-self (λ a k. leaf a ≡ leaf k) (λ a. refl) ns)))
   where
-    go : (x : Result) → Agrees (λ t. t) Γ (bills free (λ t. t) Γ xs) [] [] 0 x → Γ ⊑ memory-of x
+    start : Machine
+    start = record { mem = empty; space = 0; inputs = is; numbers = ns }
+
+    go : (x : Result) → Agrees (λ t. t) Γ (bills free (λ t. t) Γ xs) [] [] 0 x → Γ ⊑ memory-left x
     go (ran M) a r t e = let y = a .0 r t e in y .1 ∙ ap some (sym (y .2))
     go (refused full) a r t e = let q = free-bills (λ t. t) Γ xs in absurd (omega arith)
     go (refused mismatch) a r t e = elim a [ ]

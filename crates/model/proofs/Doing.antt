@@ -12,12 +12,13 @@ use Rattle.model.specs.Deduction.{Party, Derives}
 use Rattle.model.specs.Roles.{Role, Said, spoke, failed, said}
 use Rattle.model.specs.Entries.{At-rest}
 use Rattle.model.specs.Lives.{spoken}
-use Rattle.model.specs.Runs.{Memory, full, Machine, ran, refused, exec, answer}
+use Rattle.model.specs.Runs.{Memory, full, Machine, ran, refused, answer}
 use Rattle.model.specs.Holdings.{Stock, add, Value-of, Readable}
 use Rattle.model.specs.Specifications.{Duty, begin as to-start, speak, listen}
 use Rattle.model.specs.Programs.{next-role, line, takes, names, says-line, turn-of}
 use Rattle.model.specs.Sessions.{to-say, told}
 use Rattle.model.proofs.Machine.{some-inj, no-some}
+use Rattle.model.proofs.Exec.{exec}
 use Rattle.model.proofs.Feeding.{Fed, fed-map, fed-enough}
 use Rattle.model.proofs.After.{After}
 use Rattle.model.proofs.Unbroken.{Unbroken, Whole}

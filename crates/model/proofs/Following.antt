@@ -12,20 +12,21 @@ use Rattle.model.specs.Lists.{Every, firsts}
 use Rattle.model.specs.Trees.{Tree, leaf}
 use Rattle.model.specs.Deduction.{Party}
 use Rattle.model.specs.Roles.{Role}
-use Rattle.model.specs.Runs.{Machine, ran, exec, answer}
+use Rattle.model.specs.Runs.{Machine, ran, answer, Outcome, ended, stopped, attempt}
 use Rattle.model.specs.Readings.{reading-of}
 use Rattle.model.specs.Holdings.{Reads-as}
 use Rattle.model.specs.Specifications.{Specification, message, Duty, begin as to-start, speak, listen, duties}
 use Rattle.model.specs.Programs.{next-role, line, takes, names, Turn, Stage, turn-of, stage, stages-from, all-makes}
-use Rattle.model.specs.Sessions.{Outcome, ended, stopped, attempt, View, State, only, to-begin, begins-next, valid, told, went-on, put, concluded, machine-for, tried}
+use Rattle.model.specs.Sessions.{View, State, only, to-begin, begins-next, valid, told, went-on, put, concluded, machine-for, tried}
 use Rattle.model.specs.SessionLaw.{Taken}
 use Rattle.model.proofs.Lists.{every-join}
 use Rattle.model.proofs.Machine.{some-inj, ran-inj, never-ran, eqb-iff}
+use Rattle.model.proofs.Exec.{exec, result-of, attempt-exec}
 use Rattle.model.proofs.Feeding.{Fed, fed-split}
 use Rattle.model.proofs.Chosen.{reading-total}
 use Rattle.model.proofs.Fitting.{Fitting}
 use Rattle.model.proofs.Actors.{Actor, told as told-of, Ready, cost, remaining, True-log, after-call, Well, Taken as Taken-by, take-call}
-use Rattle.model.proofs.Attends.{result-of, attempt-exec, Attends}
+use Rattle.model.proofs.Attends.{Attends}
 use Rattle.model.proofs.Coming.{Comes, only-first}
 use Rattle.model.proofs.Attending.{is-role, attends-stage}
 use Rattle.model.proofs.Sums.{sum, with-one, sum-with, sum-has}

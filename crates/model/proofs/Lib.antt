@@ -13,6 +13,7 @@ pub mod Lived
 pub mod Saying
 pub mod Lives
 pub mod Machine
+pub mod Exec
 pub mod Sheets
 pub mod Feeding
 pub mod After

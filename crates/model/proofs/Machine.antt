@@ -9,7 +9,7 @@ use native.Mathlib.Omega.{arith}
 use lib.Dec.{eqb, T, leb, eqb→eq, eqb-refl}
 use Rattle.model.specs.Trees.{Head, tupled, crypted, applied, Tree, leaf, node, Trees, none, more, eq-head, eq-tree, crypt, _among_}
 use Rattle.model.specs.Roles.{Act, give, new, hear, say, same, make, split, unlock, count}
-use Rattle.model.specs.Runs.{Memory, set, puts, and-more, reads, Fault, mismatch, full, Machine, Result, ran, refused, need, need-all, check, with-memory, take-input, take-number, open-up, open-crypt, step, and-on, exec}
+use Rattle.model.specs.Runs.{Memory, set, puts, and-more, reads, Fault, mismatch, full, Machine, Result, ran, refused, need, need-all, check, with-memory, take-input, take-number, open-up, open-crypt, step}
 use Rattle.model.proofs.Tests.{and-both, and-left, and-right}
 use Rattle.model.proofs.Trees.{eq-tree-is, is-eq-tree}
 
@@ -138,14 +138,6 @@ regs-count none none r e = refl
 regs-count none (more v vs) r e = absurd (omega arith)
 regs-count (more t ts) none r e = absurd (omega arith)
 regs-count (more t ts) (more v vs) r e = ap (λ l. r ∷ l) (regs-count ts vs (r + 1) (omega arith))
-
-pub ran-split : (c : Tree → ℕ) (a : Act) (rest : List Act) (M M′ : Machine) → exec c (a ∷ rest) M ≡ ran M′
-    → (N : Machine) × (step c a M ≡ ran N) × (exec c rest N ≡ ran M′)
-ran-split c a rest M M′ e = go (step c a M) refl e
-  where
-    go : (x : Result) → step c a M ≡ x → and-on x (exec c rest) ≡ ran M′ → (N : Machine) × (step c a M ≡ ran N) × (exec c rest N ≡ ran M′)
-    go (ran N) p e = (N, p, e)
-    go (refused f) p e = absurd (never-ran e)
 
 -- what an action that ran has done
 abbrev pub gets : ℕ → Tree → Machine → List Tree → List ℕ → ℕ → Machine

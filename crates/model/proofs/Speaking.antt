@@ -9,9 +9,10 @@ use Rattle.model.specs.Lists.{Every, rest-of}
 use Rattle.model.specs.Trees.{Head, Tree, leaf, node, Trees, none, more}
 use Rattle.model.specs.Deduction.{Party, may}
 use Rattle.model.specs.Roles.{Act, give, new, hear, say, same, make, split, unlock, Role, find, act, fill, enter, Composed, got, lacks, Composed-all, got-all, lacks-one, and-then, put-together, compose, compose-all, Said, spoke, failed, say-composed, said}
-use Rattle.model.specs.Runs.{reads, mismatch, full, invalid, broken, Machine, Result, ran, refused, need, need-all, check, pay, take-number, step, and-on, exec}
+use Rattle.model.specs.Runs.{reads, mismatch, full, invalid, broken, Machine, Result, ran, refused, need, need-all, check, pay, take-number, step}
 use Rattle.model.specs.Programs.{line}
 use Rattle.model.proofs.Lists.{every-join, rest-append}
+use Rattle.model.proofs.Exec.{and-on, exec}
 
 abbrev pub Builds : Act → Type 0
 Builds (give r) = ⊥

@@ -10,7 +10,7 @@ use Rattle.model.specs.Trees.{Tree, leaf}
 use Rattle.model.specs.Deduction.{Party, Derives}
 use Rattle.model.specs.Roles.{Role}
 use Rattle.model.specs.Entries.{Has, At-rest}
-use Rattle.model.specs.Runs.{Memory, empty, mismatch, full, invalid, broken, Machine, Result, ran, refused, exec}
+use Rattle.model.specs.Runs.{Memory, empty, mismatch, full, invalid, broken, Machine, Result, ran, refused}
 use Rattle.model.specs.Readings.{Reading}
 use Rattle.model.specs.Holdings.{Stock, nothing-held, add, Term-of, Value-of, Reads-as, Readable}
 use Rattle.model.specs.Programs.{nobody-yet}
@@ -18,6 +18,7 @@ use Rattle.model.specs.Costs.{bills}
 use Rattle.model.proofs.Lists.{every-left, every-right, every-join, every-map, every-some, firsts-append}
 use Rattle.model.proofs.Deduction.{derives-map}
 use Rattle.model.proofs.Machine.{no-some, All, Below, _⊑_}
+use Rattle.model.proofs.Exec.{exec}
 use Rattle.model.proofs.Sheets.{Plan, done, plan-append, plan-keeps, Facts, facts-join, facts-keep, Rel}
 use Rattle.model.proofs.Feeding.{Fed, fed-firsts, fed-pairs, pairs-fed}
 use Rattle.model.proofs.After.{Holds, Any, After, plan-after}

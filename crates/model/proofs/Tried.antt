@@ -11,13 +11,14 @@ use Rattle.model.specs.Lists.{Every}
 use Rattle.model.specs.Trees.{Tree}
 use Rattle.model.specs.Deduction.{Party}
 use Rattle.model.specs.Roles.{Act, give, new, hear as hear-it, say as say-it, same, make, split, unlock, Role, start}
-use Rattle.model.specs.Runs.{Memory, set, Fault, mismatch, full, invalid, broken, Machine, ran, refused, exec}
+use Rattle.model.specs.Runs.{Memory, set, Fault, mismatch, full, invalid, broken, Machine, ran, refused, Outcome, ended, stopped, attempt}
 use Rattle.model.specs.Holdings.{add, Readable}
 use Rattle.model.specs.Specifications.{Specification, message, Duty, begin as to-start, speak, listen}
 use Rattle.model.specs.Programs.{next-role, given, line, takes, Stage, turn-of, stage, all-makes}
-use Rattle.model.specs.Sessions.{Outcome, ended, stopped, attempt, State, Answer, declined, number-of, rest-of-stages, to-begin, to-say, to-hear, valid, gives, concluded, machine-for, tried}
+use Rattle.model.specs.Sessions.{State, Answer, declined, number-of, rest-of-stages, to-begin, to-say, to-hear, valid, gives, concluded, machine-for, tried}
 use Rattle.model.specs.SessionLaw.{Taken, Refused}
 use Rattle.model.proofs.Machine.{some-inj, never-ran}
+use Rattle.model.proofs.Exec.{exec, result-of, attempt-exec}
 use Rattle.model.proofs.Feeding.{Fed}
 use Rattle.model.proofs.Unbroken.{Unbroken}
 use Rattle.model.proofs.Grounds.{Good}
@@ -26,7 +27,7 @@ use Rattle.model.proofs.Fitting.{Fit}
 use Rattle.model.proofs.Speaking.{No-mismatch}
 use Rattle.model.proofs.Counts.{Gives, start-gives, start-first, hear-first}
 use Rattle.model.proofs.Doing.{Takes-in, duty-taken, duty-unbroken, duty-builds}
-use Rattle.model.proofs.Attends.{result-of, attempt-exec, Attends, All-attend}
+use Rattle.model.proofs.Attends.{Attends, All-attend}
 use Rattle.model.proofs.Coming.{Comes}
 use Rattle.model.proofs.Attending.{makes-first}
 

@@ -8,8 +8,9 @@ use lib.Dec.{eqb, leb}
 use Rattle.model.specs.Trees.{Head, tupled, crypted, applied, Tree, leaf, node, none, more, eq-head, eq-tree, crypt}
 use Rattle.model.specs.Deduction.{Party}
 use Rattle.model.specs.Roles.{Act, new, say, same, make, split, unlock, count}
-use Rattle.model.specs.Runs.{Memory, Fault, mismatch, full, invalid, broken, Machine, Result, ran, refused, need, need-all, check, take-input, pay, take-number, open-up, open-crypt, step, and-on, exec}
+use Rattle.model.specs.Runs.{Memory, Fault, mismatch, full, invalid, broken, Machine, Result, ran, refused, need, need-all, check, take-input, pay, take-number, open-up, open-crypt, step}
 use Rattle.model.proofs.Machine.{Below, did}
+use Rattle.model.proofs.Exec.{and-on, exec}
 use Rattle.model.proofs.Sheets.{Move, gives, hears, news, says, sames, makes, splits, unlocks, Plan, done, then, move-keeps, Rel, rel-reads}
 use Rattle.model.proofs.Feeding.{Fed, fed-split, fed-rest}
 use Rattle.model.proofs.After.{Any, move-after}

@@ -5,8 +5,9 @@ use mathlib.Core.Path.{_≡_, subst, subst⁻¹}
 use Rattle.model.specs.Trees.{Tree, leaf, node}
 use Rattle.model.specs.Deduction.{Party, Derives, held, build, part, text}
 use Rattle.model.specs.Roles.{Act}
-use Rattle.model.specs.Runs.{Memory, Machine, ran, exec}
-use Rattle.model.proofs.Machine.{ran-inj, All, all-set, all-puts, Below, ran-split, Did, did}
+use Rattle.model.specs.Runs.{Memory, Machine, ran}
+use Rattle.model.proofs.Machine.{ran-inj, All, all-set, all-puts, Below, Did, did}
+use Rattle.model.proofs.Exec.{exec, ran-split}
 use Rattle.model.proofs.Sheets.{Move, gives, hears, news, says, sames, makes, splits, unlocks, Plan, done, then, move-keeps, Rel}
 use Rattle.model.proofs.Feeding.{Fed, fed-split, fed-rest}
 use Rattle.model.proofs.After.{Any, move-after}

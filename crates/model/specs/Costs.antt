@@ -4,7 +4,7 @@ use mathlib.Core.List.{List, [], _∷_}
 use mathlib.Core.Option.{Option, none as nothing, some}
 use Rattle.model.specs.Trees.{Tree}
 use Rattle.model.specs.Roles.{Act, give, new, hear, say, same, make, split, unlock}
-use Rattle.model.specs.Runs.{Memory, empty, Result, ran, refused, exec}
+use Rattle.model.specs.Runs.{Memory, empty, Outcome, ended, stopped, attempt}
 
 -- the costs of what actions make or build: `Γ` tells which term a register is for, `R` the term's reading
 module _ (c : Tree → ℕ) (R : Tree → Tree) where
@@ -27,12 +27,12 @@ module _ (c : Tree → ℕ) (R : Tree → Tree) where
   bills Γ (a ∷ rest) = bill Γ a + bills Γ rest
 
 -- the terms that the registers of a program are for: the program, run on the terms themselves
-abbrev pub memory-of : Result → Memory
-memory-of (ran M) = M .mem
-memory-of (refused f) = empty
+abbrev pub memory-of : Outcome → Memory
+memory-of (ended M) = M .mem
+memory-of (stopped f k n) = empty
 
 abbrev pub free : Tree → ℕ
 free t = 0
 
 unfoldable pub sheet-of : List Act → List Tree → List ℕ → Memory
-sheet-of xs is ns = memory-of (exec free xs (record { mem = empty; space = 0; inputs = is; numbers = ns }))
+sheet-of xs is ns = memory-of (attempt free xs 0 (record { mem = empty; space = 0; inputs = is; numbers = ns }))

@@ -1,5 +1,4 @@
 -- Programs computed: in which order terms are given, composed and settled.
-use Prim.Native.Nat.{ℕ}
 use mathlib.Core.Bool.{true, false}
 use mathlib.Core.List.{List, [], _∷_}
 use mathlib.Core.Path.{_≡_}
