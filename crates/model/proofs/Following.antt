@@ -12,7 +12,7 @@ use Rattle.model.specs.Lists.{Every, firsts}
 use Rattle.model.specs.Trees.{Tree, leaf}
 use Rattle.model.specs.Deduction.{Party}
 use Rattle.model.specs.Roles.{Role}
-use Rattle.model.specs.Runs.{Machine, ran, answer, Outcome, ended, stopped, attempt}
+use Rattle.model.specs.Runs.{Machine, ran, Outcome, ended, stopped, attempt, answer}
 use Rattle.model.specs.Readings.{reading-of}
 use Rattle.model.specs.Holdings.{Reads-as}
 use Rattle.model.specs.Specifications.{Specification, message, Duty, begin as to-start, speak, listen, duties}

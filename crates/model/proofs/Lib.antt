@@ -44,6 +44,7 @@ pub mod Living
 pub mod Counts
 pub mod Filled
 pub mod ProgramLaw
+pub mod Counting
 pub mod CountLaw
 pub mod Doing
 pub mod Attends

@@ -1,6 +1,5 @@
 -- The law of counts: in a program each function has its declared count of parts.
 use Prim.Native.Nat.{ℕ, _<_}
-use mathlib.Core.List.{List}
 use mathlib.Core.Path.{_≡_}
 use lib.ListN.{length}
 use Rattle.model.specs.Lists.{Every}
