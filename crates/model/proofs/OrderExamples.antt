@@ -6,4 +6,11 @@ use Rattle.model.specs.OrderExamples.{Order-examples}
 
 pub order-examples : Order-examples
 unfolding start heard said compose settled settle settle-all settle-node unsettled first-due due due-parts can open-parts open-text check-again give-all size
-order-examples = record { given-once = refl; from-the-top = refl; left-to-right = refl; built-settled = refl; right-first = refl }
+order-examples =
+    record {
+      given-once = refl;
+      from-the-top = refl;
+      left-to-right = refl;
+      built-settled = refl;
+      right-first = refl;
+    }
