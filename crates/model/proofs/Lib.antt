@@ -1,7 +1,9 @@
+-- lists, trees, deduction
 pub mod Tests
 pub mod Lists
 pub mod Trees
 pub mod Deduction
+-- the known list: composing and settling
 pub mod Entries
 pub mod Growing
 pub mod Composing
@@ -9,9 +11,11 @@ pub mod Marking
 pub mod Keeping
 pub mod Settling
 pub mod Resting
+-- lives: what a state has, and when a term can be said
 pub mod Lived
 pub mod Saying
 pub mod Lives
+-- the machine; sheets, which tell the term that each register is for
 pub mod Machine
 pub mod Exec
 pub mod Sheets
@@ -20,11 +24,13 @@ pub mod After
 pub mod Agree
 pub mod Values
 pub mod Unbroken
+-- composing and settling on sheets
 pub mod Grounds
 pub mod Filling
 pub mod Marked
 pub mod Turning
 pub mod Lines
+-- one role on values, line by line
 pub mod Sound
 pub mod Holdings
 pub mod Standing
@@ -36,6 +42,7 @@ pub mod Actors
 pub mod Linked
 pub mod Speaking
 pub mod Bills
+-- specifications: names, composing, settling, programs, counts
 pub mod Duties
 pub mod Names
 pub mod ComposingLaw
@@ -46,6 +53,7 @@ pub mod Filled
 pub mod ProgramLaw
 pub mod Counting
 pub mod CountLaw
+-- sessions
 pub mod Doing
 pub mod Attends
 pub mod Coming
@@ -58,6 +66,7 @@ pub mod Choosing
 pub mod Fair
 pub mod RefusalLaw
 pub mod SessionLaw
+-- what is computed
 pub mod WorkedExamples
 pub mod OrderExamples
 pub mod Narration

@@ -55,7 +55,7 @@ module _ (P : Party) (l : Life) (disciplined : Disciplined l) (s : Role) (ran : 
       derives (known h) = lived .inv .sound _ h
       derives (built m f) = build m (λ x i. derives (f x i))
 
-  -- THE THEOREM: a tree can be said exactly if it is derivable, from the names made now too;
+  -- a tree can be said exactly if it is derivable, from the names made now too;
   -- what is reported otherwise is not derivable, and is the tree or within it
   module _ (makes : ℕ → Bool) (new : New l makes) (t : Tree) where
     pub says-derivable : ((s′ : Role) × (said P makes t s ≡ spoke s′)) ↔ Derives P (Holdings (says l makes t)) t

@@ -68,7 +68,7 @@ module _ (P : Party) where
   term-known s Γ m h st t (inr i) =
       every-some _ _ (Has (s .known) t) (λ p a e. subst⁻¹ (Has (s .known)) e (sheet-has s Γ (st .good) (a .0) (leaf (p .0)) (a .1))) (h .made) (st .names) i
 
-  -- SOUND: at rest there is a reading that gives each holding its value
+  -- at rest there is a reading that gives each holding its value
   pub stands-reading : (s : Role) (Γ m : Memory) (h : Stock) → Stands P s Γ m h → At-rest P s
       → Readable P h
   stands-reading s Γ m h st rest = (
@@ -105,7 +105,7 @@ module _ (P : Party) where
         (firsts-append (h .made) (zip ns (M .numbers)) ∙ ap (λ l. firsts (h .made) ++ l) (fed-firsts N ns (M .numbers) ks fn))
         (plan-append P (st .plan) (w .grew .plan))))
 
-    -- AGREE: a reading of the holdings, those of the line too, lets the line run, but for space
+    -- a reading of the holdings, those of the line too, lets the line run, but for space
     pub line-agrees : (Q : Tree → Tree → Type 0) (N : ℕ → ℕ → Type 0) (vs : List Tree) (ks : List ℕ)
         → Fed Q is (M .inputs) vs → Fed N ns (M .numbers) ks
         → (l : Stock) (R : Tree → Tree) → Reading P (Term-of l) R → ((t : Tree) → Term-of more-held t → Term-of l t) → Reads-as R more-held
