@@ -64,6 +64,7 @@ pub mod Sums
 pub mod Following
 pub mod Choosing
 pub mod Fair
+pub mod OutOfTurn
 pub mod RefusalLaw
 pub mod SessionLaw
 -- what is computed

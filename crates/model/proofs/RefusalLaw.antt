@@ -14,6 +14,7 @@ use Rattle.model.specs.Programs.{Stage}
 use Rattle.model.specs.Sessions.{State, Event, begin, say, hear, build, other, Answer, taken, declined, number-of, in-turn, valid, concluded, machine-for, tried, counts-right, handled, call}
 use Rattle.model.specs.SessionLaw.{Taken, Refused}
 use Rattle.model.specs.RefusalLaw.{Refusal-law}
+use Rattle.model.proofs.OutOfTurn.{fault-later, eleven, thirteen}
 
 -- no action raises the space
 abbrev Falls : ℕ → Result → Type 0
@@ -91,19 +92,13 @@ record Left (s : State) (x : State × Answer) : Type 0 where
 same-leaves : (s : State) (a : Answer) → Left s (s, a)
 same-leaves s a = record { less = omega arith; keeps = λ n. refl; unaltered = λ h. refl }
 
-fault-number : (s t : State) (f : Fault) (k : ℕ) → Refused 11 (declined (number-of f) k) ⊎ Refused 13 (declined (number-of f) k) → t ≡ s
-fault-number s t mismatch k h = absurd (elim h [ inl p ↦ omega arith | inr p ↦ omega arith ])
-fault-number s t full k h = absurd (elim h [ inl p ↦ omega arith | inr p ↦ omega arith ])
-fault-number s t invalid k h = absurd (elim h [ inl p ↦ omega arith | inr p ↦ omega arith ])
-fault-number s t broken k h = absurd (elim h [ inl p ↦ omega arith | inr p ↦ omega arith ])
-
 tried-leaves : (c : Tree → ℕ) (r : ℕ) (st : Stage) (vs : List Tree) (ns : List ℕ) (s : State) → Left s (tried c r st vs ns s)
 tried-leaves c r st vs ns s =
     go (attempt c (st .actions) (s .views r .done) (machine-for r vs ns s)) (attempt-falls c (st .actions) (s .views r .done) (machine-for r vs ns s))
   where
     go : (x : Outcome) → space-left x ≤ s .space → Left s (concluded r st vs ns s x)
     go (ended M) h = record { less = h; keeps = λ n. absurd (n tt); unaltered = elim [ inl p ↦ absurd p | inr p ↦ absurd p ] }
-    go (stopped f k n) h = record { less = h; keeps = λ n. refl; unaltered = fault-number s (record { space = n; views = s .views }) f k }
+    go (stopped f k n) h = record { less = h; keeps = λ n. refl; unaltered = elim [ inl p ↦ absurd (fault-later 11 (inl refl) f p) | inr p ↦ absurd (fault-later 13 (inr refl) f p) ] }
 
 call-leaves : (c : Tree → ℕ) (s : State) (e : Event) → Left s (call c s e)
 call-leaves c s (begin r hs ns) = go (in-turn s (begin r hs ns))
@@ -133,4 +128,6 @@ call-leaves c s (build v) = go (leb (c v) (s .space))
 call-leaves c s other = same-leaves s _
 
 pub refusal-law : Refusal-law
-refusal-law c s e = let x = call-leaves c s e in record { space-falls = x .less; runs-kept = x .keeps; unaltered = x .unaltered }
+refusal-law c s e =
+    let x = call-leaves c s e in
+    record { eleven = eleven c s e; thirteen = thirteen c s e; unaltered = x .unaltered; runs-kept = x .keeps; space-falls = x .less }
