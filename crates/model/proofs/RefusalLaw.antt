@@ -9,9 +9,9 @@ use native.Mathlib.Omega.{arith}
 use lib.Dec.{eqb, leb}
 use Rattle.model.specs.Trees.{Head, tupled, crypted, applied, Tree, leaf, node, Trees, none, more, eq-head, eq-tree}
 use Rattle.model.specs.Roles.{Act, give, new, hear as hear-it, say as say-it, same, make, split, unlock, count}
-use Rattle.model.specs.Runs.{reads, Fault, mismatch, full, invalid, broken, Machine, Result, ran, refused, need, need-all, check, take-input, pay, take-number, open-up, open-crypt, step, Outcome, ended, stopped, attempt}
+use Rattle.model.specs.Runs.{reads, Fault, mismatch, full, Machine, Result, ran, refused, need, need-all, check, take-input, pay, take-number, open-up, open-crypt, step, Outcome, ended, stopped, attempt}
 use Rattle.model.specs.Programs.{Stage}
-use Rattle.model.specs.Sessions.{State, Event, begin, say, hear, build, other, Answer, taken, declined, number-of, in-turn, valid, concluded, machine-for, tried, counts-right, handled, call}
+use Rattle.model.specs.Sessions.{State, Event, begin, say, hear, build, other, Answer, taken, declined, in-turn, valid, concluded, machine-for, tried, counts-right, handled, call}
 use Rattle.model.specs.SessionLaw.{Taken, Refused}
 use Rattle.model.specs.RefusalLaw.{Refusal-law}
 use Rattle.model.proofs.OutOfTurn.{fault-later, eleven, thirteen}
