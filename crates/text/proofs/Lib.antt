@@ -4,3 +4,6 @@ pub mod Lexing
 pub mod Forward
 pub mod Sound
 pub mod Filled
+pub mod Passing
+pub mod Tabling
+pub mod Leading

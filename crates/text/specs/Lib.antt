@@ -1,5 +1,9 @@
 pub mod Bytes
 pub mod Filling
+pub mod Machine
+pub mod Reading
 pub mod Refusals
 pub mod Rows
+pub mod Standing
 pub mod Tokens
+pub mod Trees
