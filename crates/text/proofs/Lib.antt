@@ -7,3 +7,9 @@ pub mod Filled
 pub mod Passing
 pub mod Tabling
 pub mod Leading
+pub mod Spots
+pub mod Completing
+pub mod Stepping
+pub mod Backing
+pub mod Ending
+pub mod Seen

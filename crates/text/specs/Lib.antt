@@ -1,5 +1,7 @@
 pub mod Bytes
 pub mod Filling
+pub mod Grammar
+pub mod Law
 pub mod Machine
 pub mod Reading
 pub mod Refusals
