@@ -30,25 +30,25 @@ Good (in-integer o n fs) = n ≤ 4294967295
 module _ (at b : ℕ) (bs : List ℕ) (T : Tree) where
   term-back : (fs : List Frame) (k : ByteClass) → class b ≡ k → Onward (start at b fs k) (Goes at b bs T) → (t : Tree) × (m : Spot) × Term (spot at (b ∷ bs)) t m × Finish fs t m T
   term-back fs Blank q h = absurd h
-  term-back fs Quote q (c, m, w, r, e, fin) =
-      ( quoted at (record { at = at + 1; len = c .place - (at + 1) })
-      , m
-      , (spot (at + 1) bs, c, w, byte-make Quote at b bs q, r, e, refl, sym (same-part (spot (at + 1) bs) c w (at + 1) refl (r .2)))
-      , fin
-      )
-  term-back fs Open q (c, d, w, s, rb, rs, l, e, (ts, f, m, terms, cl, fin)) =
-      ( bracket at (part c s) ts
-      , m
-      , (spot (at + 1) bs, c, d, f, w, s, byte-make Open at b bs q, rb, rs, l, e, terms, cl, refl, refl)
-      , fin
-      )
+  term-back fs Quote q (c, m, w, r, e, fin) = (
+    quoted at (record { at = at + 1; len = c .place - (at + 1) }),
+    m,
+    (spot (at + 1) bs, c, w, byte-make Quote at b bs q, r, e, refl, sym (same-part (spot (at + 1) bs) c w (at + 1) refl (r .2))),
+    fin,
+  )
+  term-back fs Open q (c, d, w, s, rb, rs, l, e, (ts, f, m, terms, cl, fin)) = (
+    bracket at (part c s) ts,
+    m,
+    (spot (at + 1) bs, c, d, f, w, s, byte-make Open at b bs q, rb, rs, l, e, terms, cl, refl, refl),
+    fin,
+  )
   term-back fs Close q h = absurd h
   term-back fs Digit q (m, ds, r, l, e, fin) =
-      let z : 0 * 10 + (b - 48) ≡ b - 48 = omega arith in
-      ( integer at (value (b - 48) ds)
-      , m
-      , (b ∷ ds, run-more digit at b bs ds m (ap digit q) r, omega arith, ap (λ x. value x ds) (sym z), l, e, refl)
-      , fin
+      let z : 0 * 10 + (b - 48) ≡ b - 48 = omega arith in (
+        integer at (value (b - 48) ds),
+        m,
+        (b ∷ ds, run-more digit at b bs ds m (ap digit q) r, omega arith, ap (λ x. value x ds) (sym z), l, e, refl),
+        fin,
       )
   term-back fs Backslash q h = absurd h
   term-back fs Other q h = absurd h
@@ -75,27 +75,27 @@ module _ (at b : ℕ) (bs : List ℕ) (T : Tree) where
   begun-inside : (f : Frame) (fs : List Frame) (k : ByteClass) → class b ≡ k → Onward (start at b (f ∷ fs) k) (Goes at b bs T) → Within f fs (spot at (b ∷ bs)) T
   begun-inside f fs k q h =
       let t = term-back (f ∷ fs) k q h in
-      let g = t .3 in
-      ( more (t .0) (g .0)
-      , g .1
-      , g .2
-      , (spot at (b ∷ bs), t .1, [], run-none blank (spot at (b ∷ bs)), t .2, g .3)
-      , g .4
-      , subst (λ x. Finish fs x (g .2) T) (closing-grown f (t .0) (g .0)) (g .5)
+      let g = t .3 in (
+        more (t .0) (g .0),
+        g .1,
+        g .2,
+        (spot at (b ∷ bs), t .1, [], run-none blank (spot at (b ∷ bs)), t .2, g .3),
+        g .4,
+        subst (λ x. Finish fs x (g .2) T) (closing-grown f (t .0) (g .0)) (g .5),
       )
 
   back-inside : (f : Frame) (fs : List Frame) (k : ByteClass) → class b ≡ k → Onward (step-between at (inside f fs) b k) (Goes at b bs T) → Within f fs (spot at (b ∷ bs)) T
   back-inside f fs Blank q (ts, d, y, terms, cl, fin) = (ts, d, y, terms-blank (ap blank q) ts d terms, cl, fin)
   back-inside f fs Quote q h = begun-inside f fs Quote q h
   back-inside f fs Open q h = begun-inside f fs Open q h
-  back-inside f fs Close q h =
-      ( none
-      , spot at (b ∷ bs)
-      , spot (at + 1) bs
-      , ([], run-none blank (spot at (b ∷ bs)))
-      , byte-make Close at b bs q
-      , subst (λ x. Finish fs x (spot (at + 1) bs) T) (sym (closing-none f)) (put-rest fs (closed f) (spot (at + 1) bs) T h)
-      )
+  back-inside f fs Close q h = (
+    none,
+    spot at (b ∷ bs),
+    spot (at + 1) bs,
+    ([], run-none blank (spot at (b ∷ bs))),
+    byte-make Close at b bs q,
+    subst (λ x. Finish fs x (spot (at + 1) bs) T) (sym (closing-none f)) (put-rest fs (closed f) (spot (at + 1) bs) T h),
+  )
   back-inside f fs Digit q h = begun-inside f fs Digit q h
   back-inside f fs Backslash q h = absurd h
   back-inside f fs Other q h = absurd h
@@ -116,16 +116,16 @@ module _ (at b : ℕ) (bs : List ℕ) (T : Tree) where
 
   named-here : (o : ℕ) (fs : List Frame) → symbol (class b) ≡ true → Completes (in-symbol o at fs) (spot (at + 1) bs) T → Completes (in-bracket o fs) (spot at (b ∷ bs)) T
   named-here o fs q (c, s, r, e, wi) =
-      let more-s = run-more symbol at b bs s c q r in
-      ( spot at (b ∷ bs)
-      , c
-      , []
-      , b ∷ s
-      , run-none blank (spot at (b ∷ bs))
-      , more-s
-      , omega arith
-      , e
-      , subst (λ z. Within (frame o z) fs c T) (sym (same-part (spot at (b ∷ bs)) c (b ∷ s) at refl (more-s .2))) wi
+      let more-s = run-more symbol at b bs s c q r in (
+        spot at (b ∷ bs),
+        c,
+        [],
+        b ∷ s,
+        run-none blank (spot at (b ∷ bs)),
+        more-s,
+        omega arith,
+        e,
+        subst (λ z. Within (frame o z) fs c T) (sym (same-part (spot at (b ∷ bs)) c (b ∷ s) at refl (more-s .2))) wi,
       )
 
   back-bracket : (o : ℕ) (fs : List Frame) (k : ByteClass) → class b ≡ k → Onward (step-bracket at o fs k) (Goes at b bs T) → Completes (in-bracket o fs) (spot at (b ∷ bs)) T

@@ -13,3 +13,5 @@ pub mod Stepping
 pub mod Backing
 pub mod Ending
 pub mod Seen
+pub mod Outcome
+pub mod Laws

@@ -31,6 +31,7 @@ from-less p q l (n ∷ ns) f = let h = f .0 in (omega arith, from-less p q l ns 
 -- The nodes of terms stand where the terms do.
 mutual
   unfolding nodes
+
   term-from : (t : Tree) (l : ℕ) (x y : Spot) → Term x t y → From (x .place) (nodes l t) × (x .place ≤ y .place)
   term-from (quoted at s) l x y (a, c, q, o, r, e, pe, se) =
       let i = o .3 in
@@ -54,9 +55,9 @@ mutual
       let g = term-from t l a b term in
       let h = terms-from ts l b y terms in
       let u = g .1 in
-      let v = h .1 in
-      ( from-append (x .place) (nodes l t) (nodes-all l ts) (from-less (x .place) (a .place) (omega arith) (nodes l t) (g .0)) (from-less (x .place) (b .place) (omega arith) (nodes-all l ts) (h .0))
-      , omega arith
+      let v = h .1 in (
+        from-append (x .place) (nodes l t) (nodes-all l ts) (from-less (x .place) (a .place) (omega arith) (nodes l t) (g .0)) (from-less (x .place) (b .place) (omega arith) (nodes-all l ts) (h .0)),
+        omega arith,
       )
 
 pub nodes-add : (l : ℕ) (ps : Trees) (t : Tree) → nodes-all l (add ps t) ≡ nodes-all l ps ++ nodes l t
@@ -127,9 +128,9 @@ finish-seen (g ∷ gs) x e T (ts, d, y, terms, cl, fin) =
     let p = t .1 in
     let k = cl .3 in
     relabel (seen-point (put x (g ∷ gs))) (seen-in (g ∷ gs) ++ nodes (suc (length gs) + 1) x) e T (seen-put x (g ∷ gs))
-      (put-off (seen-in (grown g x ∷ gs)) (nodes-all (length gs + 1 + 1) ts) e y T (omega arith) (t .0)
-        (relabel (seen-in gs ++ nodes (length gs + 1) (closing (grown g x) ts)) (seen-in (grown g x ∷ gs) ++ nodes-all (length gs + 1 + 1) ts) y T (within-seen (grown g x) gs ts)
-          (finish-seen gs (closing (grown g x) ts) y T fin)))
+    (put-off (seen-in (grown g x ∷ gs)) (nodes-all (length gs + 1 + 1) ts) e y T (omega arith) (t .0)
+    (relabel (seen-in gs ++ nodes (length gs + 1) (closing (grown g x) ts)) (seen-in (grown g x ∷ gs) ++ nodes-all (length gs + 1 + 1) ts) y T (within-seen (grown g x) gs ts)
+    (finish-seen gs (closing (grown g x) ts) y T fin)))
 
 inside-seen : (f : Frame) (fs : List Frame) (z : Spot) (T : Tree) → Within f fs z T → Later (seen-in (f ∷ fs)) z T
 inside-seen f fs z T (ts, d, y, terms, cl, fin) =
@@ -137,7 +138,7 @@ inside-seen f fs z T (ts, d, y, terms, cl, fin) =
     let p = t .1 in
     let k = cl .3 in
     put-off (seen-in (f ∷ fs)) (nodes-all (length fs + 1 + 1) ts) z y T (omega arith) (t .0)
-      (relabel (seen-in fs ++ nodes (length fs + 1) (closing f ts)) (seen-in (f ∷ fs) ++ nodes-all (length fs + 1 + 1) ts) y T (within-seen f fs ts) (finish-seen fs (closing f ts) y T fin))
+    (relabel (seen-in fs ++ nodes (length fs + 1) (closing f ts)) (seen-in (f ∷ fs) ++ nodes-all (length fs + 1 + 1) ts) y T (within-seen f fs ts) (finish-seen fs (closing f ts) y T fin))
 
 -- Later spots bring later nodes.
 from-spot : (ns : Nodes) (z y : Spot) (T : Tree) → z .place ≤ y .place → Later ns y T → Later ns z T
@@ -181,6 +182,7 @@ finish-all (in-integer o n (f ∷ fs)) at T h = let z : _≡_ {A = ℕ} 0 1 = cc
 -- How many nodes have begun.
 mutual
   unfolding nodes size
+
   length-nodes : (l : ℕ) (t : Tree) → length (nodes l t) ≡ size t
   length-nodes l (quoted at p) = refl
   length-nodes l (integer at n) = refl

@@ -45,7 +45,7 @@ module _ (at b : ℕ) (bs : List ℕ) (T : Tree) where
       let place : a .place ≡ at + 1 = ap (λ (x : Spot). x .place) n in
       let tree : quoted p s ≡ quoted at (record { at = at + 1; len = c .place - (at + 1) }) = ap (λ x. quoted x s) pe ∙ ap (quoted at) (se ∙ same-part a c q (at + 1) place lq) in
       subst (λ k. Onward (start at b fs k) Goes) (sym (byte-class Quote at b bs a o))
-        (c, m, q, subst (λ x. Run plain x q c) n (mq, eq, lq), e, subst (λ x. Finish fs x m T) tree fin)
+      (c, m, q, subst (λ x. Run plain x q c) n (mq, eq, lq), e, subst (λ x. Finish fs x m T) tree fin)
   term-on fs (integer p n) m ([], r, l, v, h, e, pe) fin = absurd (omega arith)
   term-on fs (integer p n) m (d ∷ ds, r, l, v, h, e, pe) fin =
       let k = digit-only (class b) (run-head digit at b bs ds m d r) in
@@ -53,12 +53,12 @@ module _ (at b : ℕ) (bs : List ℕ) (T : Tree) where
       let first : value 0 (d ∷ ds) ≡ value (b - 48) ds = let z : 0 * 10 + (d - 48) ≡ b - 48 = omega arith in ap (λ x. value x ds) z in
       let tree : integer p n ≡ integer at (value (b - 48) ds) = ap (λ x. integer x n) pe ∙ ap (integer at) (v ∙ first) in
       subst (λ k. Onward (start at b fs k) Goes) (sym k)
-        (m, ds, run-tail digit at b bs ds m d r, subst (λ x. x ≤ 4294967295) (v ∙ first) h, e, subst (λ x. Finish fs x m T) tree fin)
+      (m, ds, run-tail digit at b bs ds m d r, subst (λ x. x ≤ 4294967295) (v ∙ first) h, e, subst (λ x. Finish fs x m T) tree fin)
   term-on fs (bracket p name ts) m (a, c, d, f, w, s, o, rb, rs, l, e, terms, cl, pe, ne) fin =
       let n = byte-next Open at b bs a o in
       let tree : bracket p name ts ≡ bracket at (part c s) ts = ap (λ x. bracket x name ts) pe ∙ ap (λ x. bracket at x ts) ne in
       subst (λ k. Onward (start at b fs k) Goes) (sym (byte-class Open at b bs a o))
-        (c, d, w, s, subst (λ x. Run blank x w c) n rb, rs, l, e, (ts, f, m, terms, cl, subst (λ x. Finish fs x m T) tree fin))
+      (c, d, w, s, subst (λ x. Run blank x w c) n rb, rs, l, e, (ts, f, m, terms, cl, subst (λ x. Finish fs x m T) tree fin))
 
   begin-before : (k : ByteClass) → Onward (start at b [] k) Goes → Onward (step-between at before b k) Goes
   begin-before Blank h = absurd h
@@ -94,12 +94,12 @@ module _ (at b : ℕ) (bs : List ℕ) (T : Tree) where
   on-inside f fs (none, d, y, ([], r), cl, fin) =
       let c = subst (λ x. Byte Close x y) (run-empty blank at (b ∷ bs) d r) cl in
       subst (λ k. Onward (step-between at (inside f fs) b k) Goes) (sym (byte-class Close at b bs y c))
-        (rest-put fs (closed f) (spot (at + 1) bs) T (subst (λ x. Finish fs x (spot (at + 1) bs) T) (closing-none f) (subst (λ x. Finish fs (closing f none) x T) (byte-next Close at b bs y c) fin)))
+      (rest-put fs (closed f) (spot (at + 1) bs) T (subst (λ x. Finish fs x (spot (at + 1) bs) T) (closing-none f) (subst (λ x. Finish fs (closing f none) x T) (byte-next Close at b bs y c) fin)))
   on-inside f fs (none, d, y, (c ∷ w, r), cl, fin) =
       skip (inside f fs) (run-head blank at b bs w d c r) (none, d, y, (w, run-tail blank at b bs w d c r), cl, fin)
   on-inside f fs (more t ts, d, y, (a, m, [], r, term, terms), cl, fin) =
       begin-inside f fs (class b)
-        (term-on (f ∷ fs) t m (subst (λ x. Term x t m) (run-empty blank at (b ∷ bs) a r) term) (ts, d, y, terms, cl, subst (λ x. Finish fs x y T) (sym (closing-grown f t ts)) fin))
+      (term-on (f ∷ fs) t m (subst (λ x. Term x t m) (run-empty blank at (b ∷ bs) a r) term) (ts, d, y, terms, cl, subst (λ x. Finish fs x y T) (sym (closing-grown f t ts)) fin))
   on-inside f fs (more t ts, d, y, (a, m, c ∷ w, r, term, terms), cl, fin) =
       skip (inside f fs) (run-head blank at b bs w a c r) (more t ts, d, y, (a, m, w, run-tail blank at b bs w a c r, term, terms), cl, fin)
 
@@ -127,10 +127,10 @@ module _ (at b : ℕ) (bs : List ℕ) (T : Tree) where
       let n = run-empty blank at (b ∷ bs) c r in
       let q = subst (λ z. Run symbol z (x ∷ s) d) n rs in
       bracket-symbol o fs (class b) (run-head symbol at b bs s d x q)
-        (d, s, run-tail symbol at b bs s d x q, e, subst (λ z. Within (frame o z) fs d T) (same-part c d (x ∷ s) at (ap (λ (z : Spot). z .place) n) (rs .2)) wi)
+      (d, s, run-tail symbol at b bs s d x q, e, subst (λ z. Within (frame o z) fs d T) (same-part c d (x ∷ s) at (ap (λ (z : Spot). z .place) n) (rs .2)) wi)
   on-bracket o fs (c, d, x ∷ w, s, r, rs, l, e, wi) =
       subst (λ k. Onward (step-bracket at o fs k) Goes) (sym (blank-only (class b) (run-head blank at b bs w c x r)))
-        (c, d, w, s, run-tail blank at b bs w c x r, rs, l, e, wi)
+      (c, d, w, s, run-tail blank at b bs w c x r, rs, l, e, wi)
 
   symbol-goes : (o from : ℕ) (fs : List Frame) (k : ByteClass) → symbol k ≡ true → Goes (in-symbol o from fs) → Onward (step-symbol at o from fs b k) Goes
   symbol-goes o from fs Blank q h = absurd (true≢false (sym q))
@@ -154,7 +154,7 @@ module _ (at b : ℕ) (bs : List ℕ) (T : Tree) where
   on-symbol o from fs (c, [], r, e, wi) =
       let n = run-empty symbol at (b ∷ bs) c r in
       symbol-over o from fs (class b) (subst (λ z. Ended (z .bytes)) n e)
-        (on-point (named at o from fs) (subst (λ z. Within (frame o (record { at = from; len = z .place - from })) fs z T) n wi))
+      (on-point (named at o from fs) (subst (λ z. Within (frame o (record { at = from; len = z .place - from })) fs z T) n wi))
   on-symbol o from fs (c, x ∷ s, r, e, wi) =
       symbol-goes o from fs (class b) (run-head symbol at b bs s c x r) (c, s, run-tail symbol at b bs s c x r, e, wi)
 
@@ -173,7 +173,7 @@ module _ (at b : ℕ) (bs : List ℕ) (T : Tree) where
       let q = subst (λ z. Byte Quote z m) n e in
       let f = subst (λ z. Finish fs (quoted o (record { at = o + 1; len = z .place - (o + 1) })) m T) n fin in
       subst (λ k. Onward (step-quotes at o fs k) Goes) (sym (byte-class Quote at b bs m q))
-        (rest-put fs (quotation at o) (spot (at + 1) bs) T (subst (λ z. Finish fs (quotation at o) z T) (byte-next Quote at b bs m q) f))
+      (rest-put fs (quotation at o) (spot (at + 1) bs) T (subst (λ z. Finish fs (quotation at o) z T) (byte-next Quote at b bs m q) f))
   on-quotes o fs (c, m, x ∷ q, r, e, fin) =
       quotes-go o fs (class b) (run-head plain at b bs q c x r) (c, m, q, run-tail plain at b bs q c x r, e, fin)
 
@@ -190,7 +190,7 @@ module _ (at b : ℕ) (bs : List ℕ) (T : Tree) where
   on-integer o n fs (y, [], r, l, e, fin) =
       let s = run-empty digit at (b ∷ bs) y r in
       integer-over o n fs (class b) (subst (λ z. Ended (z .bytes)) s e)
-        (on-point (put (integer o n) fs) (rest-put fs (integer o n) here T (subst (λ z. Finish fs (integer o n) z T) s fin)))
+      (on-point (put (integer o n) fs) (rest-put fs (integer o n) here T (subst (λ z. Finish fs (integer o n) z T) s fin)))
   on-integer o n fs (y, d ∷ ds, r, l, e, fin) =
       let k = digit-only (class b) (run-head digit at b bs ds y d r) in
       let same : d ≡ b = cc (r .1) in
@@ -198,8 +198,8 @@ module _ (at b : ℕ) (bs : List ℕ) (T : Tree) where
       let l′ = subst (λ x. x ≤ 4294967295) v l in
       let g = value-grows (n * 10 + (b - 48)) ds in
       subst (λ k. Onward (step-integer at o n fs b k) Goes) (sym k)
-        (subst (λ t. Onward (cond t (goes (in-integer o (n * 10 + (b - 48)) fs)) broken) Goes) (sym (le-leb (n * 10 + (b - 48)) 4294967295 (omega arith)))
-          (y, ds, run-tail digit at b bs ds y d r, l′, e, subst (λ x. Finish fs (integer o x) y T) v fin))
+      (subst (λ t. Onward (cond t (goes (in-integer o (n * 10 + (b - 48)) fs)) broken) Goes) (sym (le-leb (n * 10 + (b - 48)) 4294967295 (omega arith)))
+      (y, ds, run-tail digit at b bs ds y d r, l′, e, subst (λ x. Finish fs (integer o x) y T) v fin))
 
   pub onward : (s : State) → Completes s here T → Onward (step at s b) Goes
   onward (between p) h = on-point p h

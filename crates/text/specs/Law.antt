@@ -85,3 +85,13 @@ Lawful text (Ok read) = (t : Tree) × Spelled text t × (vec-items (read .rows) 
 Lawful text (Err (Broken p)) = Breaks text p
 Lawful text (Err (Limit p)) = Exceeds text p
 Lawful text (Err NoMemory) = Unit {0}
+
+-- A tree that a text spells within the limits is answered, want of memory aside.
+abbrev pub Accepted : Tree → Result Nodes TextFault → Type 0
+Accepted t (Ok read) = vec-items (read .rows) ≡ table t
+Accepted t (Err (Broken p)) = ⊥
+Accepted t (Err (Limit p)) = ⊥
+Accepted t (Err NoMemory) = Unit {0}
+
+abbrev pub Accepts : List ℕ → Result Nodes TextFault → Type 0
+Accepts text r = (t : Tree) → Text text t → Fits (nodes 1 t) → length text ≤ 65535 → Accepted t r

@@ -5,6 +5,7 @@ ghost use Prim.Native.Nat.{_<_, _≤_};
 ghost use lib.ListN.{length};
 ghost use Rattle.std.specs.Results.{Cases};
 ghost use Rattle.std.specs.Of.Vec.{vec-items};
+ghost use Rattle.text.specs.Law.{Lawful, Accepts};
 ghost use Rattle.text.specs.Machine.{Frame, before, between, run};
 ghost use Rattle.text.specs.Reading.{full, reading, Answers, cut};
 ghost use Rattle.text.specs.Standing.{level, Stands, Leads, Begun, Whole};
@@ -19,7 +20,9 @@ use std::alloc::Global;
 // The table of the one term that a text is. A text of more than 65,535 bytes passes a limit with the byte after these, if
 // nothing is wrong with it up to there.
 pub fn read_text(heap: Global, text: &[u8]) -> Result<Nodes, TextFault>
-    ensures { λ r. ⌜ Answers (reading (now (text .entry))) r ⌝ }
+    ensures answers { λ r. ⌜ Answers (reading (now (text .entry))) r ⌝ }
+    ensures lawful { λ r. ⌜ Lawful (now (text .entry)) r ⌝ }
+    ensures accepts { λ r. ⌜ Accepts (now (text .entry)) r ⌝ }
 {
     if text.len() <= 65535 {
         return read_all(heap, text);
