@@ -1,4 +1,5 @@
 // Texts made by hand, each with its outcome: the number of rows, or the refusal's number and place.
+use crate::fault::TextFaultDebug;
 use crate::node::Node;
 use crate::node::NodeKind;
 use crate::read_text;
