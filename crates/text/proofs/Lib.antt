@@ -4,3 +4,14 @@ pub mod Lexing
 pub mod Forward
 pub mod Sound
 pub mod Filled
+pub mod Passing
+pub mod Tabling
+pub mod Leading
+pub mod Spots
+pub mod Completing
+pub mod Stepping
+pub mod Backing
+pub mod Ending
+pub mod Seen
+pub mod Outcome
+pub mod Laws

@@ -48,6 +48,15 @@ symbol Digit = true
 symbol Backslash = true
 symbol Other = true
 
+abbrev pub digit : ByteClass → Bool
+digit Blank = false
+digit Quote = false
+digit Open = false
+digit Close = false
+digit Digit = true
+digit Backslash = false
+digit Other = false
+
 -- A node begins with a quote, an opening bracket or a digit.
 abbrev pub begins : ByteClass → Bool
 begins Blank = false

@@ -10,3 +10,6 @@ mod table;
 pub mod token;
 
 pub use crate::reading::read_text;
+
+#[cfg(test)]
+mod tests;

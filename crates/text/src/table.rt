@@ -18,7 +18,7 @@ use std::alloc::Global;
 
 // The rows so far, and those of the brackets that are still open, the innermost last.
 #[derive(Drop)]
-pub struct Table {
+pub(crate) struct Table {
     pub rows: Vec<Node>,
     pub pending: Vec<usize>,
     ghost few: { length (vec-items rows) ≤ 4096 },
@@ -28,7 +28,7 @@ pub struct Table {
 }
 
 impl Table {
-    pub fn new(heap: Global) -> Table
+    pub(crate) fn new(heap: Global) -> Table
         ensures { λ r. ⌜ (vec-items (r .rows) ≡ []) × (vec-items (r .pending) ≡ []) ⌝ }
     {
         Table {
@@ -38,14 +38,14 @@ impl Table {
     }
 
     // Would one node more pass a limit?
-    pub fn is_full(&self) -> bool
+    pub(crate) fn is_full(&self) -> bool
         ensures { λ r. ⌜ r ≡ (leb 4096 (length (vec-items (now (self .entry) .rows))) || leb 32 (length (vec-items (now (self .entry) .pending)))) ⌝ }
     {
         self.rows.len() >= 4096 || self.pending.len() >= 32
     }
 
     // One node more, without parts so far.
-    pub fn add(&mut self, at: usize, kind: NodeKind) -> Result<(), TextFault>
+    pub(crate) fn add(&mut self, at: usize, kind: NodeKind) -> Result<(), TextFault>
         requires { ⌜ length (vec-items (now self .rows)) < 4096 ⌝ }
         ensures { λ r. ⌜ Added at kind (vec-items (now (self .entry) .rows)) (vec-items (now (self .entry) .pending)) r (vec-items (now (self .exit) .rows)) (vec-items (now (self .exit) .pending)) ⌝ }
     {
@@ -55,7 +55,7 @@ impl Table {
     }
 
     // A bracket, whose parts are to come.
-    pub fn enter(&mut self, at: usize, symbol: Part) -> Result<(), TextFault>
+    pub(crate) fn enter(&mut self, at: usize, symbol: Part) -> Result<(), TextFault>
         requires { ⌜ length (vec-items (now self .rows)) < 4096 ⌝ }
         ensures { λ r. ⌜ Entered at (Bracket symbol) (vec-items (now (self .entry) .rows)) (vec-items (now (self .entry) .pending)) r (vec-items (now (self .exit) .rows)) (vec-items (now (self .exit) .pending)) ⌝ }
     {
@@ -66,7 +66,7 @@ impl Table {
     }
 
     // The end of the innermost bracket, at `at`.
-    pub fn close(&mut self, at: usize) -> Result<(), TextFault>
+    pub(crate) fn close(&mut self, at: usize) -> Result<(), TextFault>
         ensures { λ r. ⌜ Closed at (vec-items (now (self .entry) .rows)) (vec-items (now (self .entry) .pending)) r (vec-items (now (self .exit) .rows)) (vec-items (now (self .exit) .pending)) ⌝ }
     {
         let Some(row) = self.pending.pop() else {
