@@ -11,7 +11,7 @@ use std::alloc::Global;
 use syntax::source::Source;
 use terms::declarations::Declarations;
 use terms::limits::Limits;
-use text::reading::read_text;
+use text::read_text;
 
 pub fn translate(
     heap: Global,
