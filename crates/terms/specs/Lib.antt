@@ -3,3 +3,8 @@ pub mod Rows
 pub mod Refusals
 pub mod Interned
 pub mod Terms
+pub mod Scope
+pub mod Typing
+pub mod Numbering
+pub mod Declaring
+pub mod Meanings

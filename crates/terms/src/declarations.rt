@@ -9,7 +9,7 @@ use syntax::spec::Name;
 use text::part::Part;
 
 #[derive(Clone, Copy, PartialEq, Eq)]
-pub enum Type {
+pub enum ValueType {
     Number,
     Principal,
 }
@@ -18,7 +18,7 @@ pub enum Type {
 #[derive(Clone, Copy)]
 pub enum Meaning {
     // a shared name is never made
-    Value { kind: Type, shared: bool },
+    Value { kind: ValueType, shared: bool },
     // a function, by its number
     Function(u8),
 }
@@ -34,7 +34,7 @@ pub struct Declared {
 pub struct Function {
     pub name: Part,
     pub class: FunctionClass,
-    pub result: Type,
+    pub result: ValueType,
     pub first: usize,
     pub end: usize,
 }
@@ -57,7 +57,7 @@ pub struct Right {
 pub struct Declarations {
     pub names: Vec<Declared>,
     pub functions: Vec<Function>,
-    pub parameters: Vec<Type>,
+    pub parameters: Vec<ValueType>,
     pub starts: Vec<Start>,
     pub rights: Vec<Right>,
     pub terms: TermTable,
@@ -104,7 +104,7 @@ impl Declarations {
             return Err(TermFault::Undeclared { at });
         };
         match self.meaning(text, name.part) {
-            Some(Meaning::Value { kind, shared: _ }) if kind == Type::Principal => Ok(number),
+            Some(Meaning::Value { kind, shared: _ }) if kind == ValueType::Principal => Ok(number),
             _ => Err(TermFault::WrongType { at }),
         }
     }

@@ -9,8 +9,8 @@ use crate::declarations::Function;
 use crate::declarations::Meaning;
 use crate::declarations::Right;
 use crate::declarations::Start;
-use crate::declarations::Type;
-use crate::declarations::TypePartialEq;
+use crate::declarations::ValueType;
+use crate::declarations::ValueTypePartialEq;
 use crate::fault::DeclarationFault;
 use crate::fault::RefusedDeclarationFault;
 use crate::fault::TermDeclarationFault;
@@ -103,7 +103,7 @@ impl Declarations {
         &mut self,
         name: Name,
         class: FunctionClass,
-        result: Type,
+        result: ValueType,
         first: usize,
     ) -> Result<(), DeclarationFault>
         requires { ⌜ vec-len (now self .names) < 128 ⌝ }
@@ -154,10 +154,10 @@ impl Declarations {
 }
 
 // There are two types, by their names.
-fn type_of(text: &[u8], name: Name) -> Result<Type, DeclarationFault> {
+fn type_of(text: &[u8], name: Name) -> Result<ValueType, DeclarationFault> {
     match name.part.of(text) {
-        b"number" => Ok(Type::Number),
-        b"principal" => Ok(Type::Principal),
+        b"number" => Ok(ValueType::Number),
+        b"principal" => Ok(ValueType::Principal),
         _ => Err(DeclarationFault::WrongType { at: name.at }),
     }
 }
@@ -168,7 +168,7 @@ fn read_parameters(
     spec: &Spec,
     first: usize,
     end: usize,
-    parameters: &mut Vec<Type>,
+    parameters: &mut Vec<ValueType>,
 ) -> Result<(), DeclarationFault> {
     for number in first..end {
         if number < spec.parameters.len() {

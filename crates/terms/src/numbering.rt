@@ -8,7 +8,7 @@ ghost use Rattle.terms.specs.Shapes.{All-below};
 ghost use Rattle.terms.specs.Terms.{size, Grows};
 use crate::declarations::Declarations;
 use crate::declarations::Meaning;
-use crate::declarations::Type;
+use crate::declarations::ValueType;
 use crate::fault::TermFault;
 use crate::limits::Limits;
 use crate::limits::MOST_TERMS;
@@ -30,7 +30,7 @@ impl Declarations {
         ensures { λ r. ⌜ made r (λ k. (k < size (now (self .exit) .terms)) × Grows (now (self .entry) .terms) (now (self .exit) .terms)) ⌝ }
     {
         let terms = spec.terms.as_slice();
-        let _end = self.check(text, terms, term, Type::Number)?;
+        let _end = self.check(text, terms, term, ValueType::Number)?;
         let (number, _end) = self.number(text, terms, term, limits.terms.min(MOST_TERMS))?;
         Ok(number)
     }

@@ -9,8 +9,8 @@ ghost use Rattle.terms.specs.Terms.{size};
 use crate::declarations::Declarations;
 use crate::declarations::Meaning;
 use crate::declarations::Start;
-use crate::declarations::Type;
-use crate::declarations::TypePartialEq;
+use crate::declarations::ValueType;
+use crate::declarations::ValueTypePartialEq;
 use crate::fault::RefusedTermFault;
 use crate::fault::TermFault;
 use crate::term::TermRow;
@@ -65,7 +65,7 @@ impl Declarations {
             return false;
         }
         match self.names[number].meaning {
-            Meaning::Value { kind, shared } => kind == Type::Number && !shared,
+            Meaning::Value { kind, shared } => kind == ValueType::Number && !shared,
             Meaning::Function(_) => false,
         }
     }

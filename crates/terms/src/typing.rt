@@ -4,8 +4,8 @@ ghost use Rattle.std.specs.Vec.{made};
 use crate::declarations::Declarations;
 use crate::declarations::Function;
 use crate::declarations::Meaning;
-use crate::declarations::Type;
-use crate::declarations::TypePartialEq;
+use crate::declarations::ValueType;
+use crate::declarations::ValueTypePartialEq;
 use crate::fault::TermFault;
 use syntax::spec::Form;
 use syntax::spec::Name;
@@ -18,7 +18,7 @@ impl Declarations {
         text: &[u8],
         terms: &[TermNode],
         term: usize,
-        wanted: Type,
+        wanted: ValueType,
     ) -> Result<usize, TermFault>
         ensures { λ r. ⌜ made r (λ next. term < next) ⌝ }
     {
@@ -33,11 +33,11 @@ impl Declarations {
                 Ok(next)
             }
             Form::Tuple { parts } => {
-                fits(at, Type::Number, wanted)?;
+                fits(at, ValueType::Number, wanted)?;
                 self.check_parts(text, terms, next, parts, None)
             }
             Form::Crypt => {
-                fits(at, Type::Number, wanted)?;
+                fits(at, ValueType::Number, wanted)?;
                 self.check_parts(text, terms, next, 2, None)
             }
             Form::Apply { function, parts } => {
@@ -70,18 +70,18 @@ impl Declarations {
         Ok(next)
     }
 
-    fn wanted(&self, function: Option<Function>, number: u8) -> Type {
+    fn wanted(&self, function: Option<Function>, number: u8) -> ValueType {
         let Some(function) = function else {
-            return Type::Number;
+            return ValueType::Number;
         };
         let at = function.first.saturating_add(number as usize);
         if at >= self.parameters.len() {
-            return Type::Number;
+            return ValueType::Number;
         }
         self.parameters[at]
     }
 
-    fn check_name(&self, text: &[u8], name: Name, wanted: Type) -> Result<(), TermFault> {
+    fn check_name(&self, text: &[u8], name: Name, wanted: ValueType) -> Result<(), TermFault> {
         let at = name.at;
         match self.meaning(text, name.part) {
             None => Err(TermFault::Undeclared { at }),
@@ -107,8 +107,8 @@ impl Declarations {
 }
 
 // A principal may stand where a number is wanted; otherwise types are equal.
-fn fits(at: usize, found: Type, wanted: Type) -> Result<(), TermFault> {
-    if wanted == Type::Principal && found != Type::Principal {
+fn fits(at: usize, found: ValueType, wanted: ValueType) -> Result<(), TermFault> {
+    if wanted == ValueType::Principal && found != ValueType::Principal {
         return Err(TermFault::WrongType { at });
     }
     Ok(())
