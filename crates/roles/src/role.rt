@@ -104,7 +104,6 @@ impl Role {
                 role: self.name,
                 term,
             },
-            Fault::Full => LineFault::Limit { at },
             Fault::NoMemory => LineFault::NoMemory,
         }
     }
