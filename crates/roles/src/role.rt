@@ -4,6 +4,7 @@ ghost use Prim.Native.Nat.{_<_};
 ghost use Rattle.std.specs.Vec.{made};
 ghost use Rattle.terms.specs.Terms.{size};
 ghost use Rattle.roles.specs.Roles.{Fit, Keeps};
+ghost use Rattle.roles.specs.Ended.{too-much, Keeps-rest, Ends};
 use crate::fault::Fault;
 use crate::line_fault::LineFault;
 use crate::line_fault::RefusedLineFault;
@@ -111,12 +112,10 @@ impl Role {
     // The actions that were added belong to a line. Only now are the limits looked at: a message that cannot be derived is
     // refused as such, however many registers it takes until that shows.
     fn end_line(&mut self, line: usize, at: usize, limits: Limits) -> Result<(), LineFault>
-        ensures party { λ _. ⌜ now (self .exit) .party ≡ now (self .entry) .party ⌝ }
-        ensures state { λ _. ⌜ now (self .exit) .state ≡ now (self .entry) .state ⌝ }
+        ensures rest { λ _. ⌜ Keeps-rest (now (self .entry)) (now (self .exit)) ⌝ }
+        ensures ends { λ r. ⌜ Ends limits line at (now (self .entry)) (now (self .exit)) r ⌝ }
     {
-        if self.state.next as usize > limits.registers.min(MOST_REGISTERS)
-            || self.state.actions.len() > limits.actions.min(MOST_ACTIONS)
-        {
+        if self.too_much(limits) {
             return Err(LineFault::Limit { at });
         }
         for number in self.rows.len()..self.state.actions.len() {
@@ -124,5 +123,14 @@ impl Role {
             self.rows.push(Row { line, action })?;
         }
         Ok(())
+    }
+
+    // More registers or actions than a role may have?
+    fn too_much(&self, limits: Limits) -> bool
+        ensures { λ r. ⌜ r ≡ too-much limits (now (self .entry)) ⌝ }
+    {
+        let registers = limits.registers.min(MOST_REGISTERS);
+        let actions = limits.actions.min(MOST_ACTIONS);
+        self.state.next as usize > registers || self.state.actions.len() > actions
     }
 }
