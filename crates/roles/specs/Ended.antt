@@ -13,6 +13,8 @@ use Rattle.program.specs.declared.action.Row.{Row}
 use Rattle.terms.specs.declared.limits.Limits.{Limits}
 use Rattle.roles.specs.declared.line_fault.LineFault.{LineFault}
 use Rattle.roles.specs.declared.line_fault.LineFault.the-variants.{Limit, Undeclared, WrongType, Repeated, Underivable, NoMemory}
+use Rattle.roles.specs.declared.fault.Fault.{Fault}
+use Rattle.roles.specs.declared.fault.Fault.the-variants.{Lacks, NoMemory as OutOfMemory}
 use Rattle.roles.specs.declared.role.Role.{Role}
 
 abbrev pub row : ℕ → Action → Row
@@ -38,3 +40,8 @@ Ends limits line at r r′ (Err (WrongType p)) = ⊥
 Ends limits line at r r′ (Err (Repeated p)) = ⊥
 Ends limits line at r r′ (Err (Underivable p n k)) = ⊥
 Ends limits line at r r′ (Err NoMemory) = Unit {0}
+
+-- a fault of composing, of a role at a place
+abbrev pub refused-as : ℕ → ℕ → Fault → LineFault
+refused-as name at (Lacks u) = Underivable at name u
+refused-as name at OutOfMemory = NoMemory

@@ -2,9 +2,15 @@
 ghost use mathlib.Core.Path.{_≡_};
 ghost use Prim.Native.Nat.{_<_};
 ghost use Rattle.std.specs.Vec.{made};
-ghost use Rattle.terms.specs.Terms.{size};
+ghost use mathlib.Core.List.{List};
+ghost use Rattle.model.specs.Trees.{Tree};
+ghost use Rattle.terms.specs.Terms.{size, tree-in};
+ghost use Rattle.terms.specs.Meanings.{Lists};
+ghost use Rattle.roles.specs.Parties.{makes-of};
+ghost use Rattle.roles.specs.Playing.{says, hears};
+ghost use Rattle.roles.specs.Players.{player-of, Plays};
 ghost use Rattle.roles.specs.Roles.{Fit, Keeps};
-ghost use Rattle.roles.specs.Ended.{too-much, Keeps-rest, Ends};
+ghost use Rattle.roles.specs.Ended.{too-much, refused-as, Keeps-rest, Ends};
 use crate::fault::Fault;
 use crate::line_fault::LineFault;
 use crate::line_fault::RefusedLineFault;
@@ -72,7 +78,8 @@ impl Role {
         limits: Limits,
     ) -> Result<(), LineFault>
         requires { ⌜ term < size (now table) ⌝ ∗ ⌜ Fit (now table) (now self .party) (now self .state) ⌝ }
-        ensures { λ r. ⌜ Keeps (now (table .entry)) (now (self .exit) .party) (now (self .exit) .state) r ⌝ }
+        ensures fits { λ r. ⌜ Keeps (now (table .entry)) (now (self .exit) .party) (now (self .exit) .state) r ⌝ }
+        ensures plays { λ r. ⌜ ((us : List Tree) → Lists (now (table .entry)) us → Plays (now (table .entry)) (says limits line at us (makes-of (now (made .entry))) (tree-in (now (table .entry)) term) (player-of (now (table .entry)) (now (self .entry)))) (now (self .exit)) r) ⌝ }
     {
         match self.state.say(table, &self.party, made, term) {
             Ok(()) => self.end_line(line, at, limits),
@@ -89,7 +96,8 @@ impl Role {
         limits: Limits,
     ) -> Result<(), LineFault>
         requires { ⌜ term < size (now table) ⌝ ∗ ⌜ Fit (now table) (now self .party) (now self .state) ⌝ }
-        ensures { λ r. ⌜ Keeps (now (table .entry)) (now (self .exit) .party) (now (self .exit) .state) r ⌝ }
+        ensures fits { λ r. ⌜ Keeps (now (table .entry)) (now (self .exit) .party) (now (self .exit) .state) r ⌝ }
+        ensures plays { λ r. ⌜ Plays (now (table .entry)) (hears limits line at (tree-in (now (table .entry)) term) (player-of (now (table .entry)) (now (self .entry)))) (now (self .exit)) r ⌝ }
     {
         match self.state.hear(table, &self.party, term) {
             Ok(()) => self.end_line(line, at, limits),
@@ -98,7 +106,9 @@ impl Role {
     }
 
     // A fault of the role, at a place.
-    fn refused(&self, fault: Fault, at: usize) -> LineFault {
+    fn refused(&self, fault: Fault, at: usize) -> LineFault
+        ensures { λ r. ⌜ r ≡ refused-as (now (self .entry) .name) at fault ⌝ }
+    {
         match fault {
             Fault::Lacks(term) => LineFault::Underivable {
                 at,

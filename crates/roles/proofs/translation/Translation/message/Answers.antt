@@ -21,7 +21,7 @@ hear-requires c κs =
   g .0,
   all-fit-at (c .term .last .self .terms) (set (vec-items (c .args .self .now .roles)) (c .args .sender) (c .say .last .self)) (c .args .receiver) (c .index-mut-2 .result .now)
       (all-fit-set (c .term .last .self .terms) (vec-items (c .args .self .now .roles)) (c .args .sender) (c .say .last .self)
-      (all-fit-grows (c .args .self .now .declarations .terms) (c .term .last .self .terms) (g .1) (vec-items (c .args .self .now .roles)) (c .pre .0)) (c .in-Continue-say .ensures tt))
+      (all-fit-grows (c .args .self .now .declarations .terms) (c .term .last .self .terms) (g .1) (vec-items (c .args .self .now .roles)) (c .pre .0)) (c .in-Continue-say .ensures tt .fits))
       (omega arith) (c .index-mut-2 .ensures .value),
 )
 
@@ -30,5 +30,5 @@ returns c =
     let g = c .in-Continue-term .ensures tt in
     all-keep-set (c .term .last .self .terms) (set (vec-items (c .args .self .now .roles)) (c .args .sender) (c .say .last .self)) (c .args .receiver) (c .hear .last .self) (c .hear .result)
     (all-fit-set (c .term .last .self .terms) (vec-items (c .args .self .now .roles)) (c .args .sender) (c .say .last .self)
-    (all-fit-grows (c .args .self .now .declarations .terms) (c .term .last .self .terms) (g .1) (vec-items (c .args .self .now .roles)) (c .pre .0)) (c .in-Continue-say .ensures tt))
-    (c .hear .ensures)
+    (all-fit-grows (c .args .self .now .declarations .terms) (c .term .last .self .terms) (g .1) (vec-items (c .args .self .now .roles)) (c .pre .0)) (c .in-Continue-say .ensures tt .fits))
+    (c .hear .ensures .fits)
