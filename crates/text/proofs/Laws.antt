@@ -25,6 +25,7 @@ use Rattle.text.proofs.Completing.{Completes, Onward}
 use Rattle.text.proofs.Stepping.{onward}
 use Rattle.text.proofs.Ending.{ended-nil}
 use Rattle.text.proofs.Seen.{from-less}
+use Rattle.text.proofs.Located.{text-parts}
 use Rattle.text.proofs.Outcome.{Whole-from, Broken-from, Limit-from, Outcome, outcome}
 
 -- A state is completed to one tree by the same bytes.
@@ -104,7 +105,7 @@ module _ (text : List ℕ) where
   short-law h (Ok t) o =
       let e = xs-whole h in
       let s = subst (λ ys. Text ys t) e (o .completes) in
-      record { spells = s; only = λ u k. one-tree text 0 (between before) t u s k; fits = o .fits; short = h }
+      record { spells = s; only = λ u k. one-tree text 0 (between before) t u s k; parts = text-parts text t s; fits = o .fits; short = h }
   short-law h (Err (Broken p)) o =
       let q = o .place in
       let w = o .within in

@@ -15,3 +15,4 @@ pub mod Ending
 pub mod Seen
 pub mod Outcome
 pub mod Laws
+pub mod Located
