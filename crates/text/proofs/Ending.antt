@@ -1,21 +1,21 @@
 -- The end of the text, and how any state of reading can be completed.
-use Prim.Native.Nat.{ℕ, zero, suc, _+_, _-_, _*_, _<_, _≤_}
+use Prim.Native.Nat.{ℕ, _+_, _-_}
 use native.Mathlib.Omega.{arith}
-use mathlib.Core.Path.{_≡_, refl, sym, ap, subst, _∙_}
-use mathlib.Core.Bool.{Bool, true, false}
-use mathlib.Core.List.{List, [], _∷_, _++_}
+use mathlib.Core.Path.{_≡_, refl, ap, subst}
+use mathlib.Core.Bool.{Bool}
+use mathlib.Core.List.{List, [], _∷_}
 use lib.ListN.{length}
 use Rattle.std.specs.declared.result.Result.the-variants.{Ok, Err}
-use Rattle.text.specs.Bytes.{class, blank, plain, symbol, digit}
-use Rattle.text.specs.Grammar.{Spot, Run, Byte, Ended, part, value, Term, Terms, Text-from}
-use Rattle.text.specs.Machine.{Frame, Point, before, inside, after, State, between, in-bracket, in-symbol, in-quotes, in-integer, put, closed, quotation, finish, finish-between}
+use Rattle.text.specs.Bytes.{blank, plain, symbol, digit}
+use Rattle.text.specs.Grammar.{Spot, Run, Byte, Ended, Term, Terms}
+use Rattle.text.specs.Machine.{Frame, before, inside, after, State, between, in-bracket, in-symbol, in-quotes, in-integer, put, quotation, finish, finish-between}
 use Rattle.text.specs.Trees.{Tree, quoted, integer, bracket, Trees, none, more}
 use Rattle.text.specs.declared.class.ByteClass.{ByteClass}
 use Rattle.text.specs.declared.class.ByteClass.the-variants.{Quote, Open, Close}
 use Rattle.text.specs.declared.fault.TextFault.{TextFault}
 use Rattle.text.specs.declared.fault.TextFault.the-variants.{Broken}
 use Rattle.text.proofs.Spots.{spot, run-none, run-empty, run-nil, byte-make, byte-nil}
-use Rattle.text.proofs.Completing.{grown, closing, After, Finish, Within, Rest, frame, Completes, rest-put}
+use Rattle.text.proofs.Completing.{grown, closing, After, Finish, Within, frame, Completes, rest-put}
 use Rattle.text.proofs.Backing.{Good, backward}
 
 -- Nothing but an empty run fits no bytes.

@@ -1,21 +1,20 @@
 -- The law of reading a text.
-use Prim.Native.Nat.{ℕ, zero, suc, _+_, _-_, _*_, min, _<_, _≤_}
+use Prim.Native.Nat.{ℕ, suc, _+_, min, _<_, _≤_}
 use native.Mathlib.Omega.{arith}
 use mathlib.Core.Path.{_≡_, refl, sym, ap, subst, _∙_}
-use mathlib.Core.Logic.{_⊎_, inl, inr, ⊎-elim}
+use mathlib.Core.Logic.{inl, inr, ⊎-elim}
 use mathlib.Core.Bool.{Bool, true, false, cond}
 use mathlib.Core.List.{List, [], _∷_, _++_, append-nil}
 use lib.ListN.{length, take, drop, length-take, length-append, take-append-drop}
 use lib.Seq.{take-take, take-all}
 use lib.Dec.{leb, ltb}
-use Rattle.std.specs.Of.Vec.{vec-items}
 use Rattle.std.specs.declared.result.Result.{Result}
 use Rattle.std.specs.declared.result.Result.the-variants.{Ok, Err}
 use Rattle.std.proofs.shelf.Tests.{leb-true, leb-false, ltb-true, ltb-false, cases-lt}
-use Rattle.text.specs.Grammar.{Spot, Text, Begins}
-use Rattle.text.specs.Law.{nodes, From, Shallow, Fits, Fits-before, Passes, Spelled, Breaks, Exceeds, Lawful, Accepted, Accepts}
-use Rattle.text.specs.Machine.{State, between, before, Step, broken, goes, begins, step, run}
-use Rattle.text.specs.Reading.{full, read, reading, too-long, Answers}
+use Rattle.text.specs.Grammar.{Text, Begins}
+use Rattle.text.specs.Law.{nodes, Shallow, Fits, Fits-before, Passes, Spelled, Breaks, Exceeds, Lawful, Accepted, Accepts}
+use Rattle.text.specs.Machine.{State, between, before, Step, broken, goes, begins, step}
+use Rattle.text.specs.Reading.{read, reading, too-long, Answers}
 use Rattle.text.specs.Trees.{Tree, table}
 use Rattle.text.specs.declared.fault.TextFault.{TextFault}
 use Rattle.text.specs.declared.fault.TextFault.the-variants.{Limit, Broken, NoMemory}
@@ -26,7 +25,7 @@ use Rattle.text.proofs.Stepping.{onward}
 use Rattle.text.proofs.Ending.{ended-nil}
 use Rattle.text.proofs.Seen.{from-less}
 use Rattle.text.proofs.Located.{text-parts}
-use Rattle.text.proofs.Outcome.{Whole-from, Broken-from, Limit-from, Outcome, outcome}
+use Rattle.text.proofs.Outcome.{Broken-from, Limit-from, Outcome, outcome}
 
 -- A state is completed to one tree by the same bytes.
 one-tree : (bs : List ℕ) (at : ℕ) (s : State) (T U : Tree) → Completes s (spot at bs) T → Completes s (spot at bs) U → U ≡ T

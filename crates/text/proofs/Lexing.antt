@@ -1,14 +1,13 @@
 -- The code's ways through a token are those of its definition.
-use Prim.Native.Nat.{ℕ, zero, suc, _+_, _-_, _*_, _<_, _≤_}
-use native.Mathlib.Numerals.{add-one}
+use Prim.Native.Nat.{ℕ, _+_, _-_, _*_, _<_, _≤_}
 use native.Mathlib.Omega.{arith}
-use mathlib.Core.Path.{_≡_, refl, sym, ap, subst, _∙_}
+use mathlib.Core.Path.{_≡_, refl, sym, ap, _∙_}
 use mathlib.Core.Logic.{_⊎_, inl, inr}
 use mathlib.Core.Bool.{Bool, true, false, cond, _&&_}
-use mathlib.Core.List.{List, [], _∷_}
+use mathlib.Core.List.{List}
 use lib.ListN.{length, getD, drop}
 use lib.Seq.{drop-drop}
-use lib.Dec.{eqb, leb}
+use lib.Dec.{leb}
 use Rattle.std.proofs.shelf.Lists.{drop-all, drop-more}
 use Rattle.std.proofs.shelf.Tests.{ne-eqb, eq-eqb, le-leb, lt-leb, leb-true, leb-false}
 use Rattle.std.specs.declared.option.Option.{Option}
@@ -19,7 +18,7 @@ use Rattle.text.specs.Tokens.{Lexed, lex, limited, token, quoted, quote-after,
 use Rattle.text.specs.declared.class.ByteClass.{ByteClass}
 use Rattle.text.specs.declared.class.ByteClass.the-variants.{Blank, Quote, Open, Close, Digit, Backslash, Other}
 use Rattle.text.specs.declared.fault.TextFault.the-variants.{Limit, Broken}
-use Rattle.text.specs.declared.token.Token.the-variants.{Quoted as Quoted-token, Integer as Integer-token, Open as Open-token, Close as Close-token}
+use Rattle.text.specs.declared.token.Token.the-variants.{Quoted as Quoted-token, Integer as Integer-token, Open as Open-token}
 
 -- The bytes that a run of bytes leaves, from its end in the whole text.
 rest-at : (xs : List ℕ) (from n end : ℕ) → end ≡ from + n → drop n (drop from xs) ≡ drop end xs

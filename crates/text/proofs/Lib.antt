@@ -16,3 +16,4 @@ pub mod Seen
 pub mod Outcome
 pub mod Laws
 pub mod Located
+pub mod Walks

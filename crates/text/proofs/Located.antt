@@ -1,12 +1,12 @@
 -- The parts of the text that a spelled tree names.
-use Prim.Native.Nat.{ℕ, zero, suc, _+_, _-_, _<_, _≤_}
+use Prim.Native.Nat.{ℕ, _+_, _<_}
 use native.Mathlib.Omega.{arith}
 use mathlib.Core.Path.{_≡_, refl, sym, ap, subst, _∙_}
-use mathlib.Core.Bool.{Bool, true, false}
+use mathlib.Core.Bool.{Bool}
 use mathlib.Core.List.{List, [], _∷_, _++_}
 use lib.ListN.{length, take, drop}
 use lib.Seq.{drop-drop, take-append-seam, drop-append-seam}
-use Rattle.text.specs.Bytes.{class, blank, plain, symbol, digit}
+use Rattle.text.specs.Bytes.{blank, plain, symbol, digit}
 use Rattle.text.specs.Grammar.{Spot, Made-of, Run, Byte, part, Term, Terms, Text}
 use Rattle.text.specs.Law.{bytes-of, Parts, Parts-all}
 use Rattle.text.specs.Trees.{Tree, quoted, integer, bracket, Trees, none, more}
@@ -37,25 +37,27 @@ module _ (text : List ℕ) where
     term-parts (quoted at s) x y (a, b, q, f, r, l, pe, se) o =
         let oa = byte-on Quote x a f o in
         let i = f .3 in
-        let bytes : bytes-of text s ≡ q = ap (bytes-of text) se ∙ run-bytes plain a b q r oa in
-        ( ( ap (λ p. p .at) se ∙ omega arith
-          , ap length bytes ∙ sym (ap (λ p. p .len) se)
-          , subst (Made-of plain) (sym bytes) (r .0)
-          )
-        , byte-on Quote b y l (run-on plain a b q r oa)
+        let bytes : bytes-of text s ≡ q = ap (bytes-of text) se ∙ run-bytes plain a b q r oa in (
+          (
+            ap (λ p. p .at) se ∙ omega arith,
+            ap length bytes ∙ sym (ap (λ p. p .len) se),
+            subst (Made-of plain) (sym bytes) (r .0),
+          ),
+          byte-on Quote b y l (run-on plain a b q r oa),
         )
     term-parts (integer at n) x y (ds, r, l, v, h, e, pe) o = (tt, run-on digit x y ds r o)
     term-parts (bracket at s ts) x y (a, b, c, d, w, n, f, rb, rs, l, e, terms, cl, pe, ne) o =
         let oa = byte-on Open x a f o in
         let ob = run-on blank a b w rb oa in
         let g = terms-parts ts c d terms (run-on symbol b c n rs ob) in
-        let bytes : bytes-of text s ≡ n = ap (bytes-of text) ne ∙ run-bytes symbol b c n rs ob in
-        ( ( subst (λ k. 0 < k) (sym (ap (λ p. p .len) ne)) l
-          , ap length bytes ∙ sym (ap (λ p. p .len) ne)
-          , subst (Made-of symbol) (sym bytes) (rs .0)
-          , g .0
-          )
-        , byte-on Close d y cl (g .1)
+        let bytes : bytes-of text s ≡ n = ap (bytes-of text) ne ∙ run-bytes symbol b c n rs ob in (
+          (
+            subst (λ k. 0 < k) (sym (ap (λ p. p .len) ne)) l,
+            ap length bytes ∙ sym (ap (λ p. p .len) ne),
+            subst (Made-of symbol) (sym bytes) (rs .0),
+            g .0,
+          ),
+          byte-on Close d y cl (g .1),
         )
 
     terms-parts : (ts : Trees) (x y : Spot) → Terms x ts y → On x → Parts-all text ts × On y

@@ -1,18 +1,18 @@
 -- What reading answers from any state on, in the words of the grammar.
-use Prim.Native.Nat.{ℕ, zero, suc, _+_, _-_, _*_, _<_, _≤_}
+use Prim.Native.Nat.{ℕ, suc, _+_, _<_, _≤_}
 use native.Mathlib.Nat.{add-zero}
 use native.Mathlib.Omega.{arith}
 use mathlib.Core.Path.{_≡_, refl, sym, ap, subst, _∙_}
-use mathlib.Core.Logic.{_⊎_, inl, inr, ⊎-elim}
-use mathlib.Core.Bool.{Bool, true, false, cond, _||_}
-use mathlib.Core.List.{List, [], _∷_, _++_, append-assoc, append-nil}
+use mathlib.Core.Logic.{_⊎_, inl, inr}
+use mathlib.Core.Bool.{Bool, true, false, cond}
+use mathlib.Core.List.{List, [], _∷_, _++_, append-assoc}
 use lib.ListN.{length, take, length-append}
 use lib.Dec.{leb}
 use Rattle.std.specs.declared.result.Result.{Result}
 use Rattle.std.specs.declared.result.Result.the-variants.{Ok, Err}
 use Rattle.std.proofs.shelf.Tests.{leb-true, leb-false, or-cases, or-parts}
 use Rattle.text.specs.Grammar.{Spot}
-use Rattle.text.specs.Law.{nodes, nodes-all, From, Shallow, Fits, Fits-before, Passes}
+use Rattle.text.specs.Law.{nodes, nodes-all, Shallow, Fits, Fits-before, Passes}
 use Rattle.text.specs.Machine.{Frame, State, Step, broken, goes, begins, step, finish, follow, run}
 use Rattle.text.specs.Reading.{count, full}
 use Rattle.text.specs.Trees.{Tree}
@@ -23,7 +23,7 @@ use Rattle.text.proofs.Completing.{Completes, Onward}
 use Rattle.text.proofs.Stepping.{onward}
 use Rattle.text.proofs.Backing.{Good, backward, Every-way, good-step}
 use Rattle.text.proofs.Ending.{ended-nil, nil-ended, finish-broken, complete}
-use Rattle.text.proofs.Seen.{seen, seen-in, Later, completes-seen, finish-all, length-seen, Adds, adds}
+use Rattle.text.proofs.Seen.{seen, seen-in, completes-seen, finish-all, length-seen, Adds, adds}
 
 abbrev Nodes : Type 0
 Nodes = List (ℕ × ℕ)

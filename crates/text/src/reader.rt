@@ -1,8 +1,7 @@
 // A reader over borrowed text, token by token.
 ghost use mathlib.Core.Path.{_≡_};
-ghost use mathlib.Core.Bool.{Bool};
 ghost use Prim.Native.Nat.{_+_, _<_};
-ghost use lib.ListN.{length, drop, getD};
+ghost use lib.ListN.{length, drop};
 ghost use Rattle.text.specs.Bytes.{class, takes, span};
 ghost use Rattle.text.specs.declared.class.Run.the-variants.{Blanks};
 ghost use Rattle.text.specs.Tokens.{lex, token, quoted, number, longer, opening, Read};

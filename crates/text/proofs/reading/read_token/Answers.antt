@@ -1,5 +1,5 @@
 use denote.Ref.{now}
-use mathlib.Core.Path.{refl, ap}
+use mathlib.Core.Path.{ap}
 use Rattle.std.proofs.shelf.Results.{err-from-errBy}
 use Rattle.std.specs.Of.Vec.{vec-items}
 use Rattle.text.specs.Trees.{quoted, integer, rows}

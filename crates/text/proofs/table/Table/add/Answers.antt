@@ -1,9 +1,7 @@
 use Prim.Native.Nat.{_+_}
 use native.Mathlib.Omega.{arith}
-use mathlib.Core.Path.{refl}
 use Rattle.std.specs.Results.{isOk}
 use Rattle.std.specs.Of.Vec.{vec-items}
-use Rattle.text.specs.Filling.{leaf-row}
 use Rattle.text.proofs.Sound.{Sound, sound-push}
 use Rattle.text.proofs.table.Table.add.Needs as need
 
