@@ -71,7 +71,7 @@ module _ (text : List ℕ) where
         within = omega arith;
         short = h;
         begins = subst Begins (ap (λ k. take k xs) e ∙ same-front p (omega arith)) (o .begins);
-        ends = λ l b. o .ends (omega arith) (b .0) (b .1) (subst (λ ys. Text (ys ++ b .0) (b .1)) (sym (ap (λ k. take k xs) f ∙ same-front (p + 1) (omega arith))) (b .2));
+        ends = λ l more t s. o .ends (omega arith) more t (subst (λ ys. Text (ys ++ more) t) (sym (ap (λ k. take k xs) f ∙ same-front (p + 1) (omega arith))) s);
         unfinished = λ l t s. o .unfinished (omega arith) t (subst (λ ys. Text ys t) (sym (xs-whole (omega arith))) s);
         fits = λ more t s. o .fits more t (subst (λ ys. Text (ys ++ more) t) (sym (ap (λ k. take k xs) e ∙ same-front p (omega arith))) s);
       }
@@ -117,7 +117,7 @@ module _ (text : List ℕ) where
   long-law h (Ok t) o =
       let n = xs-length in
       let e : 0 + length xs ≡ 65536 = omega arith in
-      too-far h ([], t, subst (λ ys. Text ys t) (sym (append-nil xs)) (o .completes)) (λ more u s. subst (λ p. Fits-before p u) e (o .so-far more u s))
+      too-far h ([], t, subst (λ ys. Text ys t) (sym (append-nil xs)) (o .completes), tt) (λ more u s. subst (λ p. Fits-before p u) e (o .so-far more u s))
   long-law h (Err (Limit p)) o = exceeds p o
   long-law h (Err (Broken p)) o = go (ltb p 65536) refl
     where
@@ -171,7 +171,7 @@ module _ (text : List ℕ) (t : Tree) (s : Text text t) (f : Fits (nodes 1 t)) (
   accepted : (r : Result Nodes TextFault) → Lawful text r → Accepted t r
   accepted (Ok n) (u, k, q) = q ∙ ap table (sym (k .only t s))
   accepted (Err (Broken p)) k = elim (cases-lt p (length text)) [
-    | inl l ↦ k .ends l (drop (p + 1) text, t, front-text text (p + 1) t s)
+    | inl l ↦ k .ends l (drop (p + 1) text) t (front-text text (p + 1) t s)
     | inr l ↦ let w = k .within in k .unfinished (omega arith) t s
   ]
   accepted (Err (Limit p)) k =

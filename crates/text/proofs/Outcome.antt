@@ -11,7 +11,7 @@ use lib.Dec.{leb}
 use Rattle.std.specs.declared.result.Result.{Result}
 use Rattle.std.specs.declared.result.Result.the-variants.{Ok, Err}
 use Rattle.std.proofs.shelf.Tests.{leb-true, leb-false, or-cases, or-parts}
-use Rattle.text.specs.Grammar.{Spot}
+use Rattle.text.specs.Grammar.{Spot, Bytes}
 use Rattle.text.specs.Law.{nodes, nodes-all, Shallow, Fits, Fits-before, Passes}
 use Rattle.text.specs.Machine.{Frame, State, Step, broken, goes, begins, step, finish, follow, run}
 use Rattle.text.specs.Reading.{count, full}
@@ -30,7 +30,7 @@ Nodes = List (ℕ × ℕ)
 
 -- Some bytes go on from these and complete the state; all that do so have some property.
 abbrev pub Goes-on : State → ℕ → List ℕ → Type 0
-Goes-on s at bs = (more : List ℕ) × (T : Tree) × Completes s (spot at (bs ++ more)) T
+Goes-on s at bs = (more : List ℕ) × (T : Tree) × Completes s (spot at (bs ++ more)) T × Bytes more
 
 abbrev pub All-on : State → ℕ → List ℕ → (Tree → Type 0) → Type 0
 All-on s at bs P = (more : List ℕ) (T : Tree) → Completes s (spot at (bs ++ more)) T → P T
@@ -119,7 +119,7 @@ module _ (at b : ℕ) (s s′ : State) (on : (bs : List ℕ) (T : Tree) → Comp
         taken = suc (o .taken);
         place = omega arith;
         within = omega arith;
-        begins = (o .begins .0, o .begins .1, back (take (o .taken) bs ++ o .begins .0) (o .begins .1) (o .begins .2));
+        begins = (o .begins .0, o .begins .1, back (take (o .taken) bs ++ o .begins .0) (o .begins .1) (o .begins .2), o .begins .3);
         ends = λ l more T h. o .ends (omega arith) more T (on (take (suc (o .taken)) bs ++ more) T h);
         unfinished = λ l T h. o .unfinished (omega arith) T (on bs T h);
         fits = λ more T h. o .fits more T (on (take (o .taken) bs ++ more) T h);
@@ -131,7 +131,7 @@ module _ (at b : ℕ) (s s′ : State) (on : (bs : List ℕ) (T : Tree) → Comp
         taken = suc (o .taken);
         place = omega arith;
         within = omega arith;
-        begins = (o .begins .0, o .begins .1, back (take (suc (o .taken)) bs ++ o .begins .0) (o .begins .1) (o .begins .2));
+        begins = (o .begins .0, o .begins .1, back (take (suc (o .taken)) bs ++ o .begins .0) (o .begins .1) (o .begins .2), o .begins .3);
         passes = λ more T h. o .passes more T (on (take (suc (o .taken)) bs ++ more) T h);
       }
   longer bs (Err NoMemory) o = absurd o
@@ -181,7 +181,7 @@ too-many at b bs s g f fs s′ g′ e n m full-is =
       taken = 0;
       place = sym (add-zero at);
       within = omega arith;
-      begins = (c .0, c .1, backward at b (c .0) (c .1) s g (subst (λ z. Onward z (λ t. Completes t (spot (at + 1) (c .0)) (c .1))) (sym e) (c .2)));
+      begins = (c .0, c .1, backward at b (c .0) (c .1) s g (subst (λ z. Onward z (λ t. Completes t (spot (at + 1) (c .0)) (c .1))) (sym e) (c .2)), c .3);
       passes = λ more T h.
           let o = subst (λ z. Onward z (λ t. Completes t (spot (at + 1) more) T)) e (onward at b more T s h) in
           let l = completes-seen s′ (spot (at + 1) more) T o in

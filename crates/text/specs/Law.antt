@@ -87,7 +87,7 @@ pub record Breaks (text : List ℕ) (p : ℕ) : Type 0 where
   pub within : p ≤ length text
   pub short : p ≤ 65535
   pub begins : Begins (take p text)
-  pub ends : p < length text → Begins (take (p + 1) text) → ⊥
+  pub ends : p < length text → (more : List ℕ) (t : Tree) → Text (take (p + 1) text ++ more) t → ⊥
   pub unfinished : p ≡ length text → (t : Tree) → Text text t → ⊥
   pub fits : (more : List ℕ) (t : Tree) → Text (take p text ++ more) t → Fits-before p t
 
