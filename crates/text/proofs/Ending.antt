@@ -83,12 +83,12 @@ Completed s at = (bs : List ℕ) × (T : Tree) × Completes s (spot at bs) T × 
 close-all : (fs : List Frame) (x : Tree) (at : ℕ) → (bs : List ℕ) × (T : Tree) × Finish fs x (spot at bs) T × Bytes bs × Ended bs
 close-all [] x at = ([], x, after-nil x at x refl, tt, tt)
 close-all (g ∷ gs) x at =
-    let r = close-all gs (closing (grown g x) none) (at + 1) in
-    ( 41 ∷ r .0
-    , r .1
-    , (none, spot at (41 ∷ r .0), spot (at + 1) (r .0), ([], run-none blank (spot at (41 ∷ r .0))), byte-make Close at 41 (r .0) refl, r .2)
-    , (omega arith, r .3)
-    , refl
+    let r = close-all gs (closing (grown g x) none) (at + 1) in (
+      41 ∷ r .0,
+      r .1,
+      (none, spot at (41 ∷ r .0), spot (at + 1) (r .0), ([], run-none blank (spot at (41 ∷ r .0))), byte-make Close at 41 (r .0) refl, r .2),
+      (omega arith, r .3),
+      refl,
     )
 
 close-within : (f : Frame) (fs : List Frame) (at : ℕ) → (bs : List ℕ) × (T : Tree) × Within f fs (spot at (41 ∷ bs)) T × Bytes bs

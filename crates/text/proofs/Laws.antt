@@ -12,7 +12,7 @@ use Rattle.std.specs.declared.result.Result.{Result}
 use Rattle.std.specs.declared.result.Result.the-variants.{Ok, Err}
 use Rattle.std.proofs.shelf.Tests.{leb-true, leb-false, ltb-true, ltb-false, cases-lt}
 use Rattle.text.specs.Grammar.{Text, Begins}
-use Rattle.text.specs.Law.{nodes, Shallow, Fits, Fits-before, Passes, Spelled, Breaks, Exceeds, Lawful, Accepted, Accepts}
+use Rattle.text.specs.Law.{nodes, Shallow, Fits, Fits-before, Passes, Spelled, Breaks, Exceeds, Lawful, Known, Accepted, Accepts}
 use Rattle.text.specs.Machine.{State, between, before, Step, broken, goes, begins, step}
 use Rattle.text.specs.Reading.{read, reading, too-long, Answers}
 use Rattle.text.specs.Trees.{Tree, table}
@@ -167,16 +167,30 @@ fits-passes p t f o =
 front-text : (text : List ℕ) (n : ℕ) (t : Tree) → Text text t → Text (take n text ++ drop n text) t
 front-text text n t s = subst (λ ys. Text ys t) (sym (take-append-drop n text)) s
 
-module _ (text : List ℕ) (t : Tree) (s : Text text t) (f : Fits (nodes 1 t)) (short : length text ≤ 65535) where
-  accepted : (r : Result Nodes TextFault) → Lawful text r → Accepted t r
-  accepted (Ok n) (u, k, q) = q ∙ ap table (sym (k .only t s))
-  accepted (Err (Broken p)) k = elim (cases-lt p (length text)) [
+module _ (text : List ℕ) (t : Tree) (s : Text text t) where
+  known : (r : Result Nodes TextFault) → Lawful text r → Known text t r
+  known (Ok n) (u, k, q) = q ∙ ap table (sym (k .only t s))
+  known (Err (Broken p)) k = elim (cases-lt p (length text)) [
     | inl l ↦ k .ends l (drop (p + 1) text) t (front-text text (p + 1) t s)
     | inr l ↦ let w = k .within in k .unfinished (omega arith) t s
   ]
-  accepted (Err (Limit p)) k =
-      ⊎-elim (λ o. fits-passes p t f (o (drop (p + 1) text) t (front-text text (p + 1) t s))) (λ o. let w = k .within in let e = o .0 in omega arith) (k .over)
-  accepted (Err NoMemory) k = tt
+  known (Err (Limit p)) k =
+      let w = k .within in
+      elim (k .over) [
+        | inl o ↦ inl (o (drop (p + 1) text) t (front-text text (p + 1) t s))
+        | inr o ↦ let e = o .0 in inr (e, omega arith)
+      ]
+  known (Err NoMemory) k = tt
+
+  accepted : Fits (nodes 1 t) → length text ≤ 65535 → (r : Result Nodes TextFault) → Known text t r → Accepted t r
+  accepted f l (Ok n) k = k
+  accepted f l (Err (Broken p)) k = k
+  accepted f l (Err (Limit p)) k = ⊎-elim (λ o. fits-passes p t f o) (λ o. let w = o .1 in omega arith) k
+  accepted f l (Err NoMemory) k = tt
 
 pub accepts : (text : List ℕ) (r : Result Nodes TextFault) → Answers (reading text) r → Accepts text r
-accepts text r a t s f short = accepted text t s f short r (lawful text r a)
+accepts text r a =
+    record {
+      spelled = λ t s. known text t s r (lawful text r a);
+      within = λ t s f l. accepted text t s f l r (known text t s r (lawful text r a));
+    }

@@ -105,12 +105,20 @@ Lawful text (Err (Broken p)) = Breaks text p
 Lawful text (Err (Limit p)) = Exceeds text p
 Lawful text (Err NoMemory) = Unit {0}
 
--- A tree that a text spells within the limits is answered, want of memory aside.
+-- A text that spells a tree is answered with its table, unless a node or the length passes a limit; it is never broken.
+abbrev pub Known : List ℕ → Tree → Result Nodes TextFault → Type 0
+Known text t (Ok read) = vec-items (read .rows) ≡ table t
+Known text t (Err (Broken p)) = ⊥
+Known text t (Err (Limit p)) = Passes p t ⊎ ((p ≡ 65535) × (65535 < length text))
+Known text t (Err NoMemory) = Unit {0}
+
+-- Nothing within the limits is refused.
 abbrev pub Accepted : Tree → Result Nodes TextFault → Type 0
 Accepted t (Ok read) = vec-items (read .rows) ≡ table t
 Accepted t (Err (Broken p)) = ⊥
 Accepted t (Err (Limit p)) = ⊥
 Accepted t (Err NoMemory) = Unit {0}
 
-abbrev pub Accepts : List ℕ → Result Nodes TextFault → Type 0
-Accepts text r = (t : Tree) → Text text t → Fits (nodes 1 t) → length text ≤ 65535 → Accepted t r
+pub record Accepts (text : List ℕ) (r : Result Nodes TextFault) : Type 0 where
+  pub spelled : (t : Tree) → Text text t → Known text t r
+  pub within : (t : Tree) → Text text t → Fits (nodes 1 t) → length text ≤ 65535 → Accepted t r

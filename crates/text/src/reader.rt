@@ -36,7 +36,7 @@ impl<'a> Reader<'a> {
     }
 
     // The place of the next byte that is no blank, or the text's length.
-    pub fn rest(&self) -> usize
+    pub fn after_blanks(&self) -> usize
         ensures { λ r. ⌜ r ≡ now (self .entry) .at + span (takes Blanks) (drop (now (self .entry) .at) (now (now (self .entry) .text))) ⌝ }
     {
         Run::Blanks.end(self.text, self.at)

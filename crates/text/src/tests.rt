@@ -1,8 +1,12 @@
 // Texts made by hand, each with its outcome: the number of rows, or the refusal's number and place.
+use crate::fault::TextFault;
 use crate::fault::TextFaultDebug;
 use crate::node::Node;
 use crate::node::NodeKind;
+use crate::part::Part;
 use crate::read_text;
+use crate::reader::Reader;
+use crate::token::Token;
 use std::alloc::AllocError;
 use std::alloc::Global;
 use std::test::*;
@@ -179,4 +183,26 @@ fn rows(rt: LibcRuntime) -> Result<(), Fail> {
     check_eq(shown(nodes.rows[1]), (6, 3, 7, 1))?;
     check_eq(shown(nodes.rows[2]), (9, 3, 7, 0))?;
     check_eq(shown(nodes.rows[3]), (11, 4, 12, 2))
+}
+
+// A part of a text, also where it reaches past the end.
+#[test]
+fn parts() -> Result<(), Fail> {
+    let text: &[u8] = b"abcd";
+    check(Part { at: 1, len: 2 }.of(text) == &text[1..3])?;
+    check(Part { at: 3, len: 5 }.of(text) == &text[3..4])?;
+    check(Part { at: 9, len: 1 }.of(text).is_empty())
+}
+
+// Tokens, and where the reader stands: a fault leaves it in its place.
+#[test]
+fn tokens() -> Result<(), Fail> {
+    let mut reader = Reader::new(b" (a\"b\")");
+    check(matches!(reader.next(true), Err(TextFault::Limit { at: 1 })))?;
+    check_eq(reader.at, 0)?;
+    check(matches!(reader.next(false), Ok(Token::Open { at: 1, symbol: _ })))?;
+    check_eq(reader.at, 3)?;
+    check(matches!(reader.next(false), Ok(Token::Quoted { at: 3, inside: _ })))?;
+    check(matches!(reader.next(true), Ok(Token::Close { at: 6 })))?;
+    check_eq(reader.after_blanks(), 7)
 }
