@@ -1,23 +1,21 @@
 -- A byte that reading takes is one that the grammar allows next.
-use Prim.Native.Nat.{ℕ, zero, suc, _+_, _-_, _*_, _<_, _≤_}
+use Prim.Native.Nat.{ℕ, _+_, _-_, _*_, _≤_}
 use native.Mathlib.Omega.{arith}
 use mathlib.Core.Path.{_≡_, refl, sym, ap, subst, _∙_}
 use mathlib.Core.Bool.{Bool, true, false, cond}
-use mathlib.Core.List.{List, [], _∷_, _++_}
-use lib.ListN.{length}
+use mathlib.Core.List.{List, [], _∷_}
 use lib.Dec.{leb}
-use Rattle.std.proofs.shelf.Tests.{true≢false, leb-true}
+use Rattle.std.proofs.shelf.Tests.{leb-true}
 use Rattle.text.specs.Bytes.{class, blank, plain, symbol, digit}
-use Rattle.text.specs.Grammar.{Spot, Run, Byte, Ended, part, value, Term, Terms, Text-from}
+use Rattle.text.specs.Grammar.{Spot, part, value, Term, Terms, Text-from}
 use Rattle.text.specs.Machine.{Frame, Point, before, inside, after, State, between, in-bracket, in-symbol, in-quotes, in-integer, put, closed, Step, broken, goes, begins, step-between, step-bracket, named, step-symbol, quotation, step-quotes, step-integer, step}
-use Rattle.text.specs.Trees.{Tree, quoted, integer, bracket, Trees, none, more, add}
+use Rattle.text.specs.Trees.{Tree, quoted, integer, bracket, Trees, none, more}
 use Rattle.text.specs.declared.class.ByteClass.{ByteClass}
 use Rattle.text.specs.declared.class.ByteClass.the-variants.{Blank, Quote, Open, Close, Digit, Backslash, Other}
-use Rattle.text.specs.declared.part.Part.{Part}
 use Rattle.text.proofs.Spots.{spot, run-none, run-more, byte-make}
-use Rattle.text.proofs.Completing.{closing-grown, closing-none, After, Finish, Within, Rest, frame, Completes, rest-put, put-rest, Onward}
+use Rattle.text.proofs.Completing.{closing-grown, closing-none, After, Finish, Within, Rest, frame, Completes, put-rest, Onward}
 use Rattle.text.proofs.Passing.{digit-high}
-use Rattle.text.proofs.Stepping.{start, same-part, Goes, here}
+use Rattle.text.proofs.Stepping.{start, same-part, Goes}
 
 -- The value of the digits so far can still be an integer's.
 abbrev pub Good : State → Type 0

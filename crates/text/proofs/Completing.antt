@@ -1,13 +1,13 @@
 -- Which bytes complete a text from a state of reading.
-use Prim.Native.Nat.{ℕ, zero, suc, _+_, _-_, _*_, _<_, _≤_}
-use mathlib.Core.Path.{_≡_, refl, sym, ap, subst, _∙_}
-use mathlib.Core.List.{List, [], _∷_, _++_}
+use Prim.Native.Nat.{ℕ, _+_, _-_, _<_, _≤_}
+use mathlib.Core.Path.{_≡_, refl, ap}
+use mathlib.Core.List.{List, [], _∷_}
 use lib.ListN.{length}
 use Rattle.text.specs.Bytes.{blank, plain, symbol, digit}
-use Rattle.text.specs.Grammar.{Spot, Run, Byte, Ended, part, value, Term, Terms, Text-from}
+use Rattle.text.specs.Grammar.{Spot, Run, Byte, Ended, part, value, Terms, Text-from}
 use Rattle.text.specs.Machine.{Frame, Point, before, inside, after, State, between, in-bracket, in-symbol, in-quotes, in-integer, put, closed, Step, broken, goes, begins}
 use Rattle.text.specs.Trees.{Tree, quoted, integer, bracket, Trees, none, more, add}
-use Rattle.text.specs.declared.class.ByteClass.the-variants.{Quote, Open, Close}
+use Rattle.text.specs.declared.class.ByteClass.the-variants.{Quote, Close}
 use Rattle.text.specs.declared.part.Part.{Part}
 
 abbrev pub grown : Frame → Tree → Frame

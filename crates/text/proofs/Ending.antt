@@ -1,21 +1,21 @@
 -- The end of the text, and how any state of reading can be completed.
-use Prim.Native.Nat.{ℕ, zero, suc, _+_, _-_, _*_, _<_, _≤_}
+use Prim.Native.Nat.{ℕ, _+_, _-_}
 use native.Mathlib.Omega.{arith}
-use mathlib.Core.Path.{_≡_, refl, sym, ap, subst, _∙_}
-use mathlib.Core.Bool.{Bool, true, false}
-use mathlib.Core.List.{List, [], _∷_, _++_}
+use mathlib.Core.Path.{_≡_, refl, ap, subst}
+use mathlib.Core.Bool.{Bool}
+use mathlib.Core.List.{List, [], _∷_}
 use lib.ListN.{length}
 use Rattle.std.specs.declared.result.Result.the-variants.{Ok, Err}
-use Rattle.text.specs.Bytes.{class, blank, plain, symbol, digit}
-use Rattle.text.specs.Grammar.{Spot, Run, Byte, Ended, part, value, Term, Terms, Text-from}
-use Rattle.text.specs.Machine.{Frame, Point, before, inside, after, State, between, in-bracket, in-symbol, in-quotes, in-integer, put, closed, quotation, finish, finish-between}
+use Rattle.text.specs.Bytes.{blank, plain, symbol, digit}
+use Rattle.text.specs.Grammar.{Spot, Run, Byte, Ended, Term, Terms, Bytes}
+use Rattle.text.specs.Machine.{Frame, before, inside, after, State, between, in-bracket, in-symbol, in-quotes, in-integer, put, quotation, finish, finish-between}
 use Rattle.text.specs.Trees.{Tree, quoted, integer, bracket, Trees, none, more}
 use Rattle.text.specs.declared.class.ByteClass.{ByteClass}
 use Rattle.text.specs.declared.class.ByteClass.the-variants.{Quote, Open, Close}
 use Rattle.text.specs.declared.fault.TextFault.{TextFault}
 use Rattle.text.specs.declared.fault.TextFault.the-variants.{Broken}
 use Rattle.text.proofs.Spots.{spot, run-none, run-empty, run-nil, byte-make, byte-nil}
-use Rattle.text.proofs.Completing.{grown, closing, After, Finish, Within, Rest, frame, Completes, rest-put}
+use Rattle.text.proofs.Completing.{grown, closing, After, Finish, Within, frame, Completes, rest-put}
 use Rattle.text.proofs.Backing.{Good, backward}
 
 -- Nothing but an empty run fits no bytes.
@@ -78,38 +78,41 @@ finish-broken (in-integer o n (f ∷ fs)) at e h = cc
 
 -- Some bytes complete every state: a symbol, a quote and closing brackets, as they are wanted.
 abbrev pub Completed : State → ℕ → Type 0
-Completed s at = (bs : List ℕ) × (T : Tree) × Completes s (spot at bs) T
+Completed s at = (bs : List ℕ) × (T : Tree) × Completes s (spot at bs) T × Bytes bs
 
-close-all : (fs : List Frame) (x : Tree) (at : ℕ) → (bs : List ℕ) × (T : Tree) × Finish fs x (spot at bs) T × Ended bs
-close-all [] x at = ([], x, after-nil x at x refl, tt)
+close-all : (fs : List Frame) (x : Tree) (at : ℕ) → (bs : List ℕ) × (T : Tree) × Finish fs x (spot at bs) T × Bytes bs × Ended bs
+close-all [] x at = ([], x, after-nil x at x refl, tt, tt)
 close-all (g ∷ gs) x at =
     let r = close-all gs (closing (grown g x) none) (at + 1) in (
       41 ∷ r .0,
       r .1,
       (none, spot at (41 ∷ r .0), spot (at + 1) (r .0), ([], run-none blank (spot at (41 ∷ r .0))), byte-make Close at 41 (r .0) refl, r .2),
+      (omega arith, r .3),
       refl,
     )
 
-close-within : (f : Frame) (fs : List Frame) (at : ℕ) → (bs : List ℕ) × (T : Tree) × Within f fs (spot at (41 ∷ bs)) T
+close-within : (f : Frame) (fs : List Frame) (at : ℕ) → (bs : List ℕ) × (T : Tree) × Within f fs (spot at (41 ∷ bs)) T × Bytes bs
 close-within f fs at =
     let r = close-all fs (closing f none) (at + 1) in
-    (r .0, r .1, (none, spot at (41 ∷ r .0), spot (at + 1) (r .0), ([], run-none blank (spot at (41 ∷ r .0))), byte-make Close at 41 (r .0) refl, r .2))
+    (r .0, r .1, (none, spot at (41 ∷ r .0), spot (at + 1) (r .0), ([], run-none blank (spot at (41 ∷ r .0))), byte-make Close at 41 (r .0) refl, r .2), r .3)
 
 complete-symbol : (o from : ℕ) (fs : List Frame) (at : ℕ) → Completed (in-symbol o from fs) at
 complete-symbol o from fs at =
     let r = close-within (frame o (record { at = from; len = at - from })) fs at in
-    (41 ∷ r .0, r .1, (spot at (41 ∷ r .0), [], run-none symbol (spot at (41 ∷ r .0)), refl, r .2))
+    (41 ∷ r .0, r .1, (spot at (41 ∷ r .0), [], run-none symbol (spot at (41 ∷ r .0)), refl, r .2), (omega arith, r .3))
 
 pub complete : (s : State) → Good s → (at : ℕ) → Completed s at
 complete (between before) g at =
-    (48 ∷ [], integer at 0, backward at 48 [] (integer at 0) (between before) tt (nil-ended (in-integer at 0 []) (at + 1) (integer at 0) (omega arith) refl))
-complete (between (inside f fs)) g at = let r = close-within f fs at in (41 ∷ r .0, r .1, r .2)
-complete (between (after x)) g at = ([], x, after-nil x at x refl)
-complete (in-bracket o fs) g at = let r = complete-symbol o at fs (at + 1) in (120 ∷ r .0, r .1, backward at 120 (r .0) (r .1) (in-bracket o fs) tt (r .2))
+    (48 ∷ [], integer at 0, backward at 48 [] (integer at 0) (between before) tt (nil-ended (in-integer at 0 []) (at + 1) (integer at 0) (omega arith) refl), (omega arith, tt))
+complete (between (inside f fs)) g at = let r = close-within f fs at in (41 ∷ r .0, r .1, r .2, (omega arith, r .3))
+complete (between (after x)) g at = ([], x, after-nil x at x refl, tt)
+complete (in-bracket o fs) g at =
+    let r = complete-symbol o at fs (at + 1) in
+    (120 ∷ r .0, r .1, backward at 120 (r .0) (r .1) (in-bracket o fs) tt (r .2), (omega arith, r .3))
 complete (in-symbol o from fs) g at = complete-symbol o from fs at
 complete (in-quotes o fs) g at =
     let r = close-all fs (quotation at o) (at + 1) in
-    (34 ∷ r .0, r .1, backward at 34 (r .0) (r .1) (in-quotes o fs) tt (rest-put fs (quotation at o) (spot (at + 1) (r .0)) (r .1) (r .2)))
+    (34 ∷ r .0, r .1, backward at 34 (r .0) (r .1) (in-quotes o fs) tt (rest-put fs (quotation at o) (spot (at + 1) (r .0)) (r .1) (r .2)), (omega arith, r .3))
 complete (in-integer o n fs) g at =
     let r = close-all fs (integer o n) at in
-    (r .0, r .1, (spot at (r .0), [], run-none digit (spot at (r .0)), g, r .3, r .2))
+    (r .0, r .1, (spot at (r .0), [], run-none digit (spot at (r .0)), g, r .4, r .2), r .3)

@@ -1,7 +1,7 @@
 -- A token lies ahead of where it is looked for, and within the text.
-use Prim.Native.Nat.{ℕ, zero, suc, _+_, _-_, _*_, _<_, _≤_}
+use Prim.Native.Nat.{ℕ, suc, _+_, _-_, _*_, _<_, _≤_}
 use native.Mathlib.Omega.{arith}
-use mathlib.Core.Path.{_≡_, refl, sym, ap, subst, _∙_}
+use mathlib.Core.Path.{_≡_, refl, subst}
 use mathlib.Core.Bool.{Bool, true, false, cond, _&&_}
 use mathlib.Core.List.{List, [], _∷_}
 use lib.ListN.{length, drop, length-drop}
@@ -11,7 +11,7 @@ use mathlib.Core.Logic.{inl, inr}
 use Rattle.std.proofs.shelf.Lists.{drop-all}
 use Rattle.std.proofs.shelf.Tests.{cases-lt}
 use Rattle.text.specs.Bytes.{class, blank, plain, symbol, begins, span}
-use Rattle.text.specs.Tokens.{Lexed, Read, lex, limited, token, quoted, quote-after, quote-end, opening, opened, number, number-next}
+use Rattle.text.specs.Tokens.{Lexed, Read, lex, limited, token, quote-after, quote-end, opened, number, number-next}
 use Rattle.text.specs.declared.class.ByteClass.{ByteClass}
 use Rattle.text.specs.declared.class.ByteClass.the-variants.{Blank, Quote, Open, Close, Digit, Backslash, Other}
 use Rattle.text.specs.declared.fault.TextFault.the-variants.{Limit, Broken}

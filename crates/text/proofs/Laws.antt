@@ -1,21 +1,20 @@
 -- The law of reading a text.
-use Prim.Native.Nat.{ℕ, zero, suc, _+_, _-_, _*_, min, _<_, _≤_}
+use Prim.Native.Nat.{ℕ, suc, _+_, min, _<_, _≤_}
 use native.Mathlib.Omega.{arith}
 use mathlib.Core.Path.{_≡_, refl, sym, ap, subst, _∙_}
-use mathlib.Core.Logic.{_⊎_, inl, inr, ⊎-elim}
+use mathlib.Core.Logic.{inl, inr, ⊎-elim}
 use mathlib.Core.Bool.{Bool, true, false, cond}
 use mathlib.Core.List.{List, [], _∷_, _++_, append-nil}
 use lib.ListN.{length, take, drop, length-take, length-append, take-append-drop}
 use lib.Seq.{take-take, take-all}
 use lib.Dec.{leb, ltb}
-use Rattle.std.specs.Of.Vec.{vec-items}
 use Rattle.std.specs.declared.result.Result.{Result}
 use Rattle.std.specs.declared.result.Result.the-variants.{Ok, Err}
 use Rattle.std.proofs.shelf.Tests.{leb-true, leb-false, ltb-true, ltb-false, cases-lt}
-use Rattle.text.specs.Grammar.{Spot, Text, Begins}
-use Rattle.text.specs.Law.{nodes, From, Shallow, Fits, Fits-before, Passes, Spelled, Breaks, Exceeds, Lawful, Accepted, Accepts}
-use Rattle.text.specs.Machine.{State, between, before, Step, broken, goes, begins, step, run}
-use Rattle.text.specs.Reading.{full, read, reading, too-long, Answers}
+use Rattle.text.specs.Grammar.{Text, Begins}
+use Rattle.text.specs.Law.{nodes, Shallow, Fits, Fits-before, Passes, Spelled, Breaks, Exceeds, Lawful, Known, Accepted, Accepts}
+use Rattle.text.specs.Machine.{State, between, before, Step, broken, goes, begins, step}
+use Rattle.text.specs.Reading.{read, reading, too-long, Answers}
 use Rattle.text.specs.Trees.{Tree, table}
 use Rattle.text.specs.declared.fault.TextFault.{TextFault}
 use Rattle.text.specs.declared.fault.TextFault.the-variants.{Limit, Broken, NoMemory}
@@ -25,7 +24,8 @@ use Rattle.text.proofs.Completing.{Completes, Onward}
 use Rattle.text.proofs.Stepping.{onward}
 use Rattle.text.proofs.Ending.{ended-nil}
 use Rattle.text.proofs.Seen.{from-less}
-use Rattle.text.proofs.Outcome.{Whole-from, Broken-from, Limit-from, Outcome, outcome}
+use Rattle.text.proofs.Located.{text-parts}
+use Rattle.text.proofs.Outcome.{Broken-from, Limit-from, Outcome, outcome}
 
 -- A state is completed to one tree by the same bytes.
 one-tree : (bs : List ℕ) (at : ℕ) (s : State) (T U : Tree) → Completes s (spot at bs) T → Completes s (spot at bs) U → U ≡ T
@@ -71,7 +71,7 @@ module _ (text : List ℕ) where
         within = omega arith;
         short = h;
         begins = subst Begins (ap (λ k. take k xs) e ∙ same-front p (omega arith)) (o .begins);
-        ends = λ l b. o .ends (omega arith) (b .0) (b .1) (subst (λ ys. Text (ys ++ b .0) (b .1)) (sym (ap (λ k. take k xs) f ∙ same-front (p + 1) (omega arith))) (b .2));
+        ends = λ l more t s. o .ends (omega arith) more t (subst (λ ys. Text (ys ++ more) t) (sym (ap (λ k. take k xs) f ∙ same-front (p + 1) (omega arith))) s);
         unfinished = λ l t s. o .unfinished (omega arith) t (subst (λ ys. Text ys t) (sym (xs-whole (omega arith))) s);
         fits = λ more t s. o .fits more t (subst (λ ys. Text (ys ++ more) t) (sym (ap (λ k. take k xs) e ∙ same-front p (omega arith))) s);
       }
@@ -104,7 +104,7 @@ module _ (text : List ℕ) where
   short-law h (Ok t) o =
       let e = xs-whole h in
       let s = subst (λ ys. Text ys t) e (o .completes) in
-      record { spells = s; only = λ u k. one-tree text 0 (between before) t u s k; fits = o .fits; short = h }
+      record { spells = s; only = λ u k. one-tree text 0 (between before) t u s k; parts = text-parts text t s; fits = o .fits; short = h }
   short-law h (Err (Broken p)) o =
       let q = o .place in
       let w = o .within in
@@ -117,7 +117,7 @@ module _ (text : List ℕ) where
   long-law h (Ok t) o =
       let n = xs-length in
       let e : 0 + length xs ≡ 65536 = omega arith in
-      too-far h ([], t, subst (λ ys. Text ys t) (sym (append-nil xs)) (o .completes)) (λ more u s. subst (λ p. Fits-before p u) e (o .so-far more u s))
+      too-far h ([], t, subst (λ ys. Text ys t) (sym (append-nil xs)) (o .completes), tt) (λ more u s. subst (λ p. Fits-before p u) e (o .so-far more u s))
   long-law h (Err (Limit p)) o = exceeds p o
   long-law h (Err (Broken p)) o = go (ltb p 65536) refl
     where
@@ -167,16 +167,30 @@ fits-passes p t f o =
 front-text : (text : List ℕ) (n : ℕ) (t : Tree) → Text text t → Text (take n text ++ drop n text) t
 front-text text n t s = subst (λ ys. Text ys t) (sym (take-append-drop n text)) s
 
-module _ (text : List ℕ) (t : Tree) (s : Text text t) (f : Fits (nodes 1 t)) (short : length text ≤ 65535) where
-  accepted : (r : Result Nodes TextFault) → Lawful text r → Accepted t r
-  accepted (Ok n) (u, k, q) = q ∙ ap table (sym (k .only t s))
-  accepted (Err (Broken p)) k = elim (cases-lt p (length text)) [
-    | inl l ↦ k .ends l (drop (p + 1) text, t, front-text text (p + 1) t s)
+module _ (text : List ℕ) (t : Tree) (s : Text text t) where
+  known : (r : Result Nodes TextFault) → Lawful text r → Known text t r
+  known (Ok n) (u, k, q) = q ∙ ap table (sym (k .only t s))
+  known (Err (Broken p)) k = elim (cases-lt p (length text)) [
+    | inl l ↦ k .ends l (drop (p + 1) text) t (front-text text (p + 1) t s)
     | inr l ↦ let w = k .within in k .unfinished (omega arith) t s
   ]
-  accepted (Err (Limit p)) k =
-      ⊎-elim (λ o. fits-passes p t f (o (drop (p + 1) text) t (front-text text (p + 1) t s))) (λ o. let w = k .within in let e = o .0 in omega arith) (k .over)
-  accepted (Err NoMemory) k = tt
+  known (Err (Limit p)) k =
+      let w = k .within in
+      elim (k .over) [
+        | inl o ↦ inl (o (drop (p + 1) text) t (front-text text (p + 1) t s))
+        | inr o ↦ let e = o .0 in inr (e, omega arith)
+      ]
+  known (Err NoMemory) k = tt
+
+  accepted : Fits (nodes 1 t) → length text ≤ 65535 → (r : Result Nodes TextFault) → Known text t r → Accepted t r
+  accepted f l (Ok n) k = k
+  accepted f l (Err (Broken p)) k = k
+  accepted f l (Err (Limit p)) k = ⊎-elim (λ o. fits-passes p t f o) (λ o. let w = o .1 in omega arith) k
+  accepted f l (Err NoMemory) k = tt
 
 pub accepts : (text : List ℕ) (r : Result Nodes TextFault) → Answers (reading text) r → Accepts text r
-accepts text r a t s f short = accepted text t s f short r (lawful text r a)
+accepts text r a =
+    record {
+      spelled = λ t s. known text t s r (lawful text r a);
+      within = λ t s f l. accepted text t s f l r (known text t s r (lawful text r a));
+    }

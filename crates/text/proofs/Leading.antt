@@ -1,10 +1,10 @@
 -- The steps of filling a table go along with reading byte by byte.
-use Prim.Native.Nat.{ℕ, zero, suc, _+_, _-_, _<_, _≤_}
+use Prim.Native.Nat.{ℕ, _+_, _<_, _≤_}
 use native.Mathlib.Omega.{arith}
 use mathlib.Core.Path.{_≡_, refl, sym, ap, subst, _∙_}
 use mathlib.Core.Bool.{Bool, true, false, cond, _||_}
-use mathlib.Core.List.{List, [], _∷_, _++_}
-use lib.ListN.{length, getD, set, take, drop}
+use mathlib.Core.List.{List, [], _∷_}
+use lib.ListN.{length, getD, take, drop}
 use lib.Dec.{leb, ltb}
 use Rattle.std.specs.declared.result.Result.{Result}
 use Rattle.std.specs.declared.result.Result.the-variants.{Ok, Err}
@@ -14,21 +14,21 @@ use Rattle.std.proofs.shelf.Tests.{true≢false, cond-true, cond-false, le-leb,
 use Rattle.text.specs.Bytes.{class, blank, span}
 use Rattle.text.specs.declared.class.ByteClass.{ByteClass}
 use Rattle.text.specs.declared.class.ByteClass.the-variants.{Blank, Quote, Open, Close, Digit, Backslash, Other}
-use Rattle.text.specs.Filling.{leaf-row, with-end, no-row, Added, Entered, Closed}
+use Rattle.text.specs.Filling.{leaf-row, Added, Entered, Closed}
 use Rattle.text.specs.Machine.{Frame, Point, before, inside, after, between, put, closed, step-between, follow, run}
 use Rattle.text.specs.Reading.{count, full, read, reading, too-long, cut, Answers}
-use Rattle.text.specs.Standing.{tabled, opens, Stands, level, Begun, Whole, Leads}
+use Rattle.text.specs.Standing.{opens, Stands, level, Begun, Whole, Leads}
 use Rattle.text.specs.Tokens.{Lexed, lex, Read}
-use Rattle.text.specs.Trees.{Tree, quoted, integer, bracket, Trees, none, more, rows, table}
+use Rattle.text.specs.Trees.{Tree, bracket, none, more, rows, table}
 use Rattle.text.specs.declared.fault.TextFault.{TextFault}
 use Rattle.text.specs.declared.fault.TextFault.the-variants.{Limit, Broken, NoMemory}
 use Rattle.text.specs.declared.node.Node.{Node}
 use Rattle.text.specs.declared.nodes.Nodes.{Nodes}
 use Rattle.text.specs.declared.node.NodeKind.{NodeKind}
-use Rattle.text.specs.declared.node.NodeKind.the-variants.{Quoted, Integer, Bracket}
+use Rattle.text.specs.declared.node.NodeKind.the-variants.{Bracket}
 use Rattle.text.specs.declared.part.Part.{Part}
 use Rattle.text.specs.declared.token.Token.{Token}
-use Rattle.text.specs.declared.token.Token.the-variants.{Quoted as Quoted-token, Integer as Integer-token, Open as Open-token, Close as Close-token}
+use Rattle.text.specs.declared.token.Token.the-variants.{Close as Close-token}
 use Rattle.text.proofs.Forward.{read-ok}
 use Rattle.text.proofs.Passing.{stops, stay-blank, turn, on-point, carry, one-token}
 use Rattle.text.proofs.Tabling.{length-tabled, length-opens, stands-put, stands-enter, stands-close, level-rows, level-full}

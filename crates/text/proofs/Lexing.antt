@@ -1,23 +1,24 @@
 -- The code's ways through a token are those of its definition.
-use Prim.Native.Nat.{ℕ, zero, suc, _+_, _-_, _*_, _<_, _≤_}
-use native.Mathlib.Numerals.{add-one}
+use Prim.Native.Nat.{ℕ, _+_, _-_, _*_, _<_, _≤_}
 use native.Mathlib.Omega.{arith}
-use mathlib.Core.Path.{_≡_, refl, sym, ap, subst, _∙_}
+use mathlib.Core.Path.{_≡_, refl, sym, ap, _∙_}
 use mathlib.Core.Logic.{_⊎_, inl, inr}
 use mathlib.Core.Bool.{Bool, true, false, cond, _&&_}
-use mathlib.Core.List.{List, [], _∷_}
+use mathlib.Core.List.{List}
 use lib.ListN.{length, getD, drop}
 use lib.Seq.{drop-drop}
-use lib.Dec.{eqb, leb}
+use lib.Dec.{leb}
 use Rattle.std.proofs.shelf.Lists.{drop-all, drop-more}
-use Rattle.std.proofs.shelf.Tests.{ne-eqb, eq-eqb, le-leb, lt-leb}
+use Rattle.std.proofs.shelf.Tests.{ne-eqb, eq-eqb, le-leb, lt-leb, leb-true, leb-false}
+use Rattle.std.specs.declared.option.Option.{Option}
+use Rattle.std.specs.declared.option.Option.the-variants.{Some, None}
 use Rattle.std.specs.declared.result.Result.the-variants.{Ok, Err}
 use Rattle.text.specs.Bytes.{class, blank, plain, symbol, begins, span}
-use Rattle.text.specs.Tokens.{Lexed, lex, limited, token, quoted, quote-after, quote-end, opening, opened, number, number-next}
+use Rattle.text.specs.Tokens.{Lexed, lex, limited, token, quoted, quote-after, quote-end, opening, opened, number, number-next, longer}
 use Rattle.text.specs.declared.class.ByteClass.{ByteClass}
 use Rattle.text.specs.declared.class.ByteClass.the-variants.{Blank, Quote, Open, Close, Digit, Backslash, Other}
 use Rattle.text.specs.declared.fault.TextFault.the-variants.{Limit, Broken}
-use Rattle.text.specs.declared.token.Token.the-variants.{Quoted as Quoted-token, Integer as Integer-token, Open as Open-token, Close as Close-token}
+use Rattle.text.specs.declared.token.Token.the-variants.{Quoted as Quoted-token, Integer as Integer-token, Open as Open-token}
 
 -- The bytes that a run of bytes leaves, from its end in the whole text.
 rest-at : (xs : List ℕ) (from n end : ℕ) → end ≡ from + n → drop n (drop from xs) ≡ drop end xs
@@ -104,3 +105,29 @@ module _ (xs : List ℕ) (full : Bool) (from at : ℕ) (e : at ≡ from + span b
 
 pub next-drop : (xs : List ℕ) (at : ℕ) → drop 1 (drop at xs) ≡ drop (at + 1) xs
 next-drop xs at = drop-drop 1 at xs
+
+-- Whether a digit more is taken.
+pub longer-some : (n b m : ℕ) → Some m ≡ longer n b → (n * 10 + (b - 48) ≤ 4294967295) × (m ≡ n * 10 + (b - 48))
+longer-some n b m e = go (leb (n * 10 + (b - 48)) 4294967295) refl e
+  where
+    go : (t : Bool) → leb (n * 10 + (b - 48)) 4294967295 ≡ t → Some m ≡ cond t (Some (n * 10 + (b - 48))) None → (n * 10 + (b - 48) ≤ 4294967295) × (m ≡ n * 10 + (b - 48))
+    go true q h = (leb-true (n * 10 + (b - 48)) 4294967295 q, cc)
+    go false q h = let z : _≡_ {A = ℕ} 0 1 = cc in absurd (omega arith)
+
+pub longer-none : (n b : ℕ) → _≡_ {A = Option ℕ} None (longer n b) → 4294967295 < n * 10 + (b - 48)
+longer-none n b e = go (leb (n * 10 + (b - 48)) 4294967295) refl e
+  where
+    go : (t : Bool) → leb (n * 10 + (b - 48)) 4294967295 ≡ t → _≡_ {A = Option ℕ} None (cond t (Some (n * 10 + (b - 48))) None) → 4294967295 < n * 10 + (b - 48)
+    go true q h = let z : _≡_ {A = ℕ} 0 1 = cc in absurd (omega arith)
+    go false q h = leb-false (n * 10 + (b - 48)) 4294967295 q
+
+module _ (xs : List ℕ) (from i n : ℕ) (h : i < length xs) (e : class (getD xs i 0) ≡ Digit) where
+  pub number-longer : (m : ℕ) → Some m ≡ longer n (getD xs i 0) → (number from i n (drop i xs) ≡ number from (i + 1) m (drop (i + 1) xs)) × (m < 4294967296)
+  number-longer m q =
+      let l = longer-some n (getD xs i 0) m q in
+      let a = l .0 in
+      let b = l .1 in
+      (number-more xs from i n h e a ∙ ap (λ k. number from (i + 1) k (drop (i + 1) xs)) (sym b), omega arith)
+
+  pub number-no-longer : _≡_ {A = Option ℕ} None (longer n (getD xs i 0)) → number from i n (drop i xs) ≡ Err (Broken i)
+  number-no-longer q = number-large xs from i n h e (longer-none n (getD xs i 0) q)

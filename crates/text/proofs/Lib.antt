@@ -15,3 +15,5 @@ pub mod Ending
 pub mod Seen
 pub mod Outcome
 pub mod Laws
+pub mod Located
+pub mod Walks

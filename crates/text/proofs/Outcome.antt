@@ -1,18 +1,18 @@
 -- What reading answers from any state on, in the words of the grammar.
-use Prim.Native.Nat.{ℕ, zero, suc, _+_, _-_, _*_, _<_, _≤_}
+use Prim.Native.Nat.{ℕ, suc, _+_, _<_, _≤_}
 use native.Mathlib.Nat.{add-zero}
 use native.Mathlib.Omega.{arith}
 use mathlib.Core.Path.{_≡_, refl, sym, ap, subst, _∙_}
-use mathlib.Core.Logic.{_⊎_, inl, inr, ⊎-elim}
-use mathlib.Core.Bool.{Bool, true, false, cond, _||_}
-use mathlib.Core.List.{List, [], _∷_, _++_, append-assoc, append-nil}
+use mathlib.Core.Logic.{_⊎_, inl, inr}
+use mathlib.Core.Bool.{Bool, true, false, cond}
+use mathlib.Core.List.{List, [], _∷_, _++_, append-assoc}
 use lib.ListN.{length, take, length-append}
 use lib.Dec.{leb}
 use Rattle.std.specs.declared.result.Result.{Result}
 use Rattle.std.specs.declared.result.Result.the-variants.{Ok, Err}
 use Rattle.std.proofs.shelf.Tests.{leb-true, leb-false, or-cases, or-parts}
-use Rattle.text.specs.Grammar.{Spot}
-use Rattle.text.specs.Law.{nodes, nodes-all, From, Shallow, Fits, Fits-before, Passes}
+use Rattle.text.specs.Grammar.{Spot, Bytes}
+use Rattle.text.specs.Law.{nodes, nodes-all, Shallow, Fits, Fits-before, Passes}
 use Rattle.text.specs.Machine.{Frame, State, Step, broken, goes, begins, step, finish, follow, run}
 use Rattle.text.specs.Reading.{count, full}
 use Rattle.text.specs.Trees.{Tree}
@@ -23,14 +23,14 @@ use Rattle.text.proofs.Completing.{Completes, Onward}
 use Rattle.text.proofs.Stepping.{onward}
 use Rattle.text.proofs.Backing.{Good, backward, Every-way, good-step}
 use Rattle.text.proofs.Ending.{ended-nil, nil-ended, finish-broken, complete}
-use Rattle.text.proofs.Seen.{seen, seen-in, Later, completes-seen, finish-all, length-seen, Adds, adds}
+use Rattle.text.proofs.Seen.{seen, seen-in, completes-seen, finish-all, length-seen, Adds, adds}
 
 abbrev Nodes : Type 0
 Nodes = List (ℕ × ℕ)
 
 -- Some bytes go on from these and complete the state; all that do so have some property.
 abbrev pub Goes-on : State → ℕ → List ℕ → Type 0
-Goes-on s at bs = (more : List ℕ) × (T : Tree) × Completes s (spot at (bs ++ more)) T
+Goes-on s at bs = (more : List ℕ) × (T : Tree) × Completes s (spot at (bs ++ more)) T × Bytes more
 
 abbrev pub All-on : State → ℕ → List ℕ → (Tree → Type 0) → Type 0
 All-on s at bs P = (more : List ℕ) (T : Tree) → Completes s (spot at (bs ++ more)) T → P T
@@ -119,7 +119,7 @@ module _ (at b : ℕ) (s s′ : State) (on : (bs : List ℕ) (T : Tree) → Comp
         taken = suc (o .taken);
         place = omega arith;
         within = omega arith;
-        begins = (o .begins .0, o .begins .1, back (take (o .taken) bs ++ o .begins .0) (o .begins .1) (o .begins .2));
+        begins = (o .begins .0, o .begins .1, back (take (o .taken) bs ++ o .begins .0) (o .begins .1) (o .begins .2), o .begins .3);
         ends = λ l more T h. o .ends (omega arith) more T (on (take (suc (o .taken)) bs ++ more) T h);
         unfinished = λ l T h. o .unfinished (omega arith) T (on bs T h);
         fits = λ more T h. o .fits more T (on (take (o .taken) bs ++ more) T h);
@@ -131,7 +131,7 @@ module _ (at b : ℕ) (s s′ : State) (on : (bs : List ℕ) (T : Tree) → Comp
         taken = suc (o .taken);
         place = omega arith;
         within = omega arith;
-        begins = (o .begins .0, o .begins .1, back (take (suc (o .taken)) bs ++ o .begins .0) (o .begins .1) (o .begins .2));
+        begins = (o .begins .0, o .begins .1, back (take (suc (o .taken)) bs ++ o .begins .0) (o .begins .1) (o .begins .2), o .begins .3);
         passes = λ more T h. o .passes more T (on (take (suc (o .taken)) bs ++ more) T h);
       }
   longer bs (Err NoMemory) o = absurd o
@@ -181,7 +181,7 @@ too-many at b bs s g f fs s′ g′ e n m full-is =
       taken = 0;
       place = sym (add-zero at);
       within = omega arith;
-      begins = (c .0, c .1, backward at b (c .0) (c .1) s g (subst (λ z. Onward z (λ t. Completes t (spot (at + 1) (c .0)) (c .1))) (sym e) (c .2)));
+      begins = (c .0, c .1, backward at b (c .0) (c .1) s g (subst (λ z. Onward z (λ t. Completes t (spot (at + 1) (c .0)) (c .1))) (sym e) (c .2)), c .3);
       passes = λ more T h.
           let o = subst (λ z. Onward z (λ t. Completes t (spot (at + 1) more) T)) e (onward at b more T s h) in
           let l = completes-seen s′ (spot (at + 1) more) T o in

@@ -1,11 +1,11 @@
 -- A token takes the machine as far as its bytes do, one by one.
-use Prim.Native.Nat.{ℕ, zero, suc, _+_, _-_, _*_, _<_, _≤_}
-use native.Mathlib.Nat.{add-zero, zero-add, zero-mul}
+use Prim.Native.Nat.{ℕ, suc, _+_, _-_, _*_, _≤_}
+use native.Mathlib.Nat.{add-zero}
 use native.Mathlib.Omega.{arith}
 use mathlib.Core.Path.{_≡_, refl, sym, ap, subst, _∙_}
 use mathlib.Core.Bool.{Bool, true, false, cond, _&&_, _||_}
 use mathlib.Core.List.{List, [], _∷_}
-use lib.ListN.{length, drop}
+use lib.ListN.{drop}
 use lib.Seq.{drop-drop}
 use lib.Dec.{eqb, leb}
 use Rattle.std.specs.declared.result.Result.{Result}
@@ -13,8 +13,8 @@ use Rattle.std.specs.declared.result.Result.the-variants.{Ok, Err}
 use Rattle.std.proofs.shelf.Tests.{true≢false, ne-eqb, le-leb, and-parts, leb-true}
 use Rattle.text.specs.Bytes.{class, blank, plain, symbol, begins as begins-node, span}
 use Rattle.text.specs.Tokens.{Lexed, lex, limited, token, quoted as lex-quoted, quote-after, quote-end, opening, opened, number, number-next}
-use Rattle.text.specs.Trees.{Tree, quoted, integer, bracket, Trees, none}
-use Rattle.text.specs.Machine.{Frame, Point, before, inside, after, State, between, in-bracket, in-symbol, in-quotes, in-integer, put, closed, Step, broken, goes, begins, step-between, step-bracket, named, step-symbol, quotation, step-quotes, step-integer, step, finish, finish-between, follow, run}
+use Rattle.text.specs.Trees.{Tree, quoted, integer, none}
+use Rattle.text.specs.Machine.{Frame, Point, before, inside, after, State, between, in-bracket, in-symbol, in-quotes, in-integer, put, closed, broken, goes, step-between, step-bracket, named, step-symbol, step-quotes, step-integer, step, finish, follow, run}
 use Rattle.text.specs.Standing.{level}
 use Rattle.text.specs.declared.class.ByteClass.{ByteClass}
 use Rattle.text.specs.declared.class.ByteClass.the-variants.{Blank, Quote, Open, Close, Digit, Backslash, Other}

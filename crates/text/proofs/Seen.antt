@@ -1,21 +1,21 @@
 -- The nodes that have begun in a state of reading are the first of every tree that it can be completed to.
-use Prim.Native.Nat.{ℕ, zero, suc, _+_, _-_, _*_, _<_, _≤_}
+use Prim.Native.Nat.{ℕ, suc, _+_, _-_, _*_, _≤_}
 use native.Mathlib.Omega.{arith}
 use mathlib.Core.Path.{_≡_, refl, sym, ap, subst, _∙_}
-use mathlib.Core.Bool.{Bool, true, false, cond}
+use mathlib.Core.Bool.{true, false, cond}
 use mathlib.Core.List.{List, [], _∷_, _++_, append-assoc, append-nil}
 use lib.ListN.{length, length-append}
 use lib.Dec.{leb}
-use Rattle.std.specs.declared.result.Result.the-variants.{Ok, Err}
-use Rattle.text.specs.Bytes.{class, blank, plain, symbol, digit}
-use Rattle.text.specs.Grammar.{Spot, Run, Byte, Ended, part, value, Term, Terms, Text-from}
-use Rattle.text.specs.Law.{nodes, nodes-all, From, Shallow, Fits}
-use Rattle.text.specs.Machine.{Frame, Point, before, inside, after, State, between, in-bracket, in-symbol, in-quotes, in-integer, put, closed, quotation, Step, broken, goes, begins, step-between, step-bracket, named, step-symbol, step-quotes, step-integer, step, finish, finish-between}
+use Rattle.std.specs.declared.result.Result.the-variants.{Ok}
+use Rattle.text.specs.Bytes.{class}
+use Rattle.text.specs.Grammar.{Spot, part, value, Term, Terms}
+use Rattle.text.specs.Law.{nodes, nodes-all, From}
+use Rattle.text.specs.Machine.{Frame, Point, before, inside, after, State, between, in-bracket, in-symbol, in-quotes, in-integer, put, closed, quotation, Step, broken, goes, begins, step-between, step-bracket, named, step-symbol, step-quotes, step-integer, step, finish}
 use Rattle.text.specs.Reading.{count}
 use Rattle.text.specs.Trees.{Tree, quoted, integer, bracket, Trees, none, more, add, size, sizes}
 use Rattle.text.specs.declared.class.ByteClass.{ByteClass}
 use Rattle.text.specs.declared.class.ByteClass.the-variants.{Blank, Quote, Open, Close, Digit, Backslash, Other}
-use Rattle.text.proofs.Completing.{grown, join, closing, After, Finish, Within, Rest, frame, Completes}
+use Rattle.text.proofs.Completing.{grown, join, closing, Finish, Within, frame, Completes}
 
 abbrev Nodes : Type 0
 Nodes = List (ℕ × ℕ)

@@ -1,16 +1,18 @@
 -- What every table keeps while it is filled.
-use Prim.Native.Nat.{ℕ, zero, suc, _+_, _-_, _<_, _≤_}
+use Prim.Native.Nat.{ℕ, _+_, _<_, _≤_}
 use native.Mathlib.Omega.{arith}
 use mathlib.Core.Path.{_≡_, refl, sym, ap, subst, _∙_}
-use mathlib.Core.Logic.{_⊎_, inl, inr, ⊎-elim}
+use mathlib.Core.Logic.{inl, inr}
 use mathlib.Core.Bool.{Bool, true, false, cond}
-use mathlib.Core.List.{List, [], _∷_, _++_, map}
+use mathlib.Core.List.{List, [], _∷_, _++_}
 use lib.ListN.{length, getD, set, length-set, length-map}
 use lib.Seq.{map-set, getD-set-same, getD-set-other}
 use Rattle.std.proofs.shelf.Lists.{length-push, getD-push, getD-append-left, map-push}
 use Rattle.std.proofs.shelf.Tests.{cases-eq}
 use Rattle.text.specs.Rows.{ends, Onward, Within, Below}
+use Rattle.std.specs.Of.Vec.{vec-items}
 use Rattle.text.specs.declared.node.Node.{Node}
+use Rattle.text.specs.declared.table.Table.{Table}
 
 pub record Sound (rows : List Node) (pending : List ℕ) : Type 0 where
   pub few : length rows ≤ 4096
@@ -89,3 +91,10 @@ module _ (rows : List Node) (pending : List ℕ) (s : Sound rows pending) where
         within = λ i h. rw r (each-set (λ a b. b ≤ length (set rows k n)) (ends rows) k (n .end) (λ j g. let w = s .within j (omega arith) in omega arith) (omega arith) i (omega arith));
         inside = λ i h. let w = s .inside i (omega arith) in subst (λ x. x < length (set rows k n)) (ap (λ xs. getD xs i 0) e ∙ getD-append-left pending′ (k ∷ []) 0 i h) (omega arith);
       }
+
+-- A table that was added to is longer.
+pub longer-table : (rows rows′ : List Node) (n : Node) → rows′ ≡ rows ++ (n ∷ []) → length rows < length rows′
+longer-table rows rows′ n e = let p = length-push rows n in let q = ap length e in omega arith
+
+pub sound-of : (t : Table) → Sound (vec-items (t .rows)) (vec-items (t .pending))
+sound-of t = record { few = t .few; onward = t .onward; within = t .within; inside = t .inside }

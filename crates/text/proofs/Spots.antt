@@ -1,14 +1,13 @@
 -- Runs and single bytes at the front of some bytes.
-use Prim.Native.Nat.{ℕ, zero, suc, _+_, _-_, _*_, _<_, _≤_}
+use Prim.Native.Nat.{ℕ, _+_, _-_, _*_, _≤_}
 use native.Mathlib.Nat.{add-zero}
 use native.Mathlib.Omega.{arith}
 use mathlib.Core.Path.{_≡_, refl, sym, ap, subst, _∙_}
-use mathlib.Core.Bool.{Bool, true, false}
-use mathlib.Core.List.{List, [], _∷_, _++_}
-use lib.ListN.{length}
+use mathlib.Core.Bool.{Bool, true}
+use mathlib.Core.List.{List, [], _∷_}
 use Rattle.std.proofs.shelf.Tests.{true≢false}
-use Rattle.text.specs.Bytes.{class, blank, plain, symbol, digit}
-use Rattle.text.specs.Grammar.{Spot, Made-of, Run, Byte, value}
+use Rattle.text.specs.Bytes.{class, blank, digit}
+use Rattle.text.specs.Grammar.{Spot, Run, Byte, value}
 use Rattle.text.specs.declared.class.ByteClass.{ByteClass}
 use Rattle.text.specs.declared.class.ByteClass.the-variants.{Blank, Quote, Open, Close, Digit, Backslash, Other}
 

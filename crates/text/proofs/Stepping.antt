@@ -1,22 +1,19 @@
 -- A byte that the grammar allows next is one that reading takes.
-use Prim.Native.Nat.{ℕ, zero, suc, _+_, _-_, _*_, _<_, _≤_}
+use Prim.Native.Nat.{ℕ, _+_, _-_, _*_, _≤_}
 use native.Mathlib.Omega.{arith}
 use mathlib.Core.Path.{_≡_, refl, sym, ap, subst, _∙_}
-use mathlib.Core.Bool.{Bool, true, false, cond}
-use mathlib.Core.List.{List, [], _∷_, _++_}
+use mathlib.Core.Bool.{true, false, cond}
+use mathlib.Core.List.{List, [], _∷_}
 use lib.ListN.{length}
-use lib.Dec.{leb}
 use Rattle.std.proofs.shelf.Tests.{true≢false, le-leb}
-use Rattle.std.specs.declared.result.Result.the-variants.{Ok, Err}
 use Rattle.text.specs.Bytes.{class, blank, plain, symbol, digit}
-use Rattle.text.specs.Grammar.{Spot, Run, Byte, Ended, part, value, Term, Terms, Text-from}
-use Rattle.text.specs.Machine.{Frame, Point, before, inside, after, State, between, in-bracket, in-symbol, in-quotes, in-integer, put, closed, Step, broken, goes, begins, step-between, step-bracket, named, step-symbol, quotation, step-quotes, step-integer, step, finish, finish-between}
-use Rattle.text.specs.Trees.{Tree, quoted, integer, bracket, Trees, none, more, add}
+use Rattle.text.specs.Grammar.{Spot, Run, Byte, Ended, part, value, Term, Text-from}
+use Rattle.text.specs.Machine.{Frame, Point, before, inside, after, State, between, in-bracket, in-symbol, in-quotes, in-integer, put, closed, Step, broken, goes, begins, step-between, step-bracket, named, step-symbol, quotation, step-quotes, step-integer, step}
+use Rattle.text.specs.Trees.{Tree, quoted, integer, bracket, none, more}
 use Rattle.text.specs.declared.class.ByteClass.{ByteClass}
 use Rattle.text.specs.declared.class.ByteClass.the-variants.{Blank, Quote, Open, Close, Digit, Backslash, Other}
-use Rattle.text.specs.declared.part.Part.{Part}
-use Rattle.text.proofs.Spots.{spot, run-none, run-empty, run-more, run-head, run-tail, run-nil, byte-make, byte-class, byte-next, byte-nil, blank-only, digit-only, value-grows}
-use Rattle.text.proofs.Completing.{grown, join, closing, closing-grown, closing-none, After, Finish, Within, Rest, frame, Completes, rest-put, put-rest, Onward}
+use Rattle.text.proofs.Spots.{spot, run-empty, run-head, run-tail, byte-class, byte-next, blank-only, digit-only, value-grows}
+use Rattle.text.proofs.Completing.{closing, closing-grown, closing-none, After, Finish, Within, Rest, frame, Completes, rest-put, Onward}
 
 -- The step with which a node begins.
 abbrev pub start : ℕ → ℕ → List Frame → ByteClass → Step

@@ -1,21 +1,20 @@
 -- Rows of a tree that grows, part by part.
-use Prim.Native.Nat.{ℕ, zero, suc, _+_, _-_, _<_, _≤_}
-use native.Mathlib.Nat.{add-assoc, add-zero}
+use Prim.Native.Nat.{ℕ, suc, _+_}
+use native.Mathlib.Nat.{add-zero}
 use native.Mathlib.Omega.{arith}
-use mathlib.Core.Path.{_≡_, refl, sym, ap, subst, _∙_}
-use mathlib.Core.Bool.{Bool, true, false, cond, _||_}
+use mathlib.Core.Path.{_≡_, refl, sym, ap, _∙_}
+use mathlib.Core.Bool.{_||_}
 use mathlib.Core.List.{List, [], _∷_, _++_, append-assoc, append-nil}
 use lib.ListN.{length, getD, set, length-append}
 use lib.Seq.{set-at, getD-at}
 use lib.Dec.{leb}
 use Rattle.std.proofs.shelf.Lists.{length-push, same-from-push}
 use Rattle.text.specs.Filling.{leaf-row, with-end, no-row}
-use Rattle.text.specs.Machine.{Frame, Point, before, inside, after, put, closed}
+use Rattle.text.specs.Machine.{Frame, inside, put, closed}
 use Rattle.text.specs.Reading.{count, full}
 use Rattle.text.specs.Standing.{tabled, opens, Stands, level}
 use Rattle.text.specs.Trees.{Tree, quoted, integer, bracket, Trees, none, more, size, sizes, rows, rows-all, table, add}
 use Rattle.text.specs.declared.node.Node.{Node}
-use Rattle.text.specs.declared.node.NodeKind.{NodeKind}
 use Rattle.text.specs.declared.node.NodeKind.the-variants.{Quoted, Integer, Bracket}
 use Rattle.text.specs.declared.part.Part.{Part}
 

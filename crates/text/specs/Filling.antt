@@ -6,10 +6,10 @@ use lib.ListN.{length, getD, set}
 use Rattle.std.specs.declared.result.Result.{Result}
 use Rattle.std.specs.declared.result.Result.the-variants.{Ok, Err}
 use Rattle.text.specs.declared.fault.TextFault.{TextFault}
-use Rattle.text.specs.declared.fault.TextFault.the-variants.{Limit, Broken, NoMemory}
+use Rattle.text.specs.declared.fault.TextFault.the-variants.{Broken, NoMemory}
 use Rattle.text.specs.declared.node.Node.{Node}
 use Rattle.text.specs.declared.node.NodeKind.{NodeKind}
-use Rattle.text.specs.declared.node.NodeKind.the-variants.{Quoted, Integer, Bracket}
+use Rattle.text.specs.declared.node.NodeKind.the-variants.{Integer}
 
 -- A row without parts so far.
 abbrev pub leaf-row : ℕ → NodeKind → ℕ → Node

@@ -1,5 +1,5 @@
 -- The grammar: which bytes spell which tree. Nothing here speaks of a reader.
-use Prim.Native.Nat.{ℕ, suc, _+_, _*_, _-_, _<_, _≤_}
+use Prim.Native.Nat.{ℕ, _+_, _*_, _-_, _<_, _≤_}
 use mathlib.Core.Path.{_≡_}
 use mathlib.Core.Bool.{Bool, true, false}
 use mathlib.Core.List.{List, [], _∷_, _++_}
@@ -69,6 +69,10 @@ Text-from x t = (a b c : Spot) × (w v : List ℕ) × Run blank x w a × Term a 
 abbrev pub Text : List ℕ → Tree → Type 0
 Text bs t = Text-from (record { place = 0; bytes = bs }) t
 
--- Some text begins with these bytes.
+abbrev pub Bytes : List ℕ → Type 0
+Bytes [] = Unit {0}
+Bytes (b ∷ bs) = (b < 256) × Bytes bs
+
+-- Some text begins with these bytes: more bytes complete them.
 abbrev pub Begins : List ℕ → Type 0
-Begins bs = (more : List ℕ) × (t : Tree) × Text (bs ++ more) t
+Begins bs = (more : List ℕ) × (t : Tree) × Text (bs ++ more) t × Bytes more

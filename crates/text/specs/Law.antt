@@ -1,17 +1,19 @@
 -- What reading a text answers, in the words of the grammar.
-use Prim.Native.Nat.{ℕ, suc, _+_, _<_, _≤_}
+use Prim.Native.Nat.{ℕ, _+_, _<_, _≤_}
 use mathlib.Core.Path.{_≡_}
 use mathlib.Core.Logic.{_⊎_}
 use mathlib.Core.List.{List, [], _∷_, _++_}
-use lib.ListN.{length, take}
+use lib.ListN.{length, take, drop}
 use Rattle.std.specs.Of.Vec.{vec-items}
 use Rattle.std.specs.declared.result.Result.{Result}
 use Rattle.std.specs.declared.result.Result.the-variants.{Ok, Err}
-use Rattle.text.specs.Grammar.{Text, Begins}
+use Rattle.text.specs.Bytes.{plain, symbol}
+use Rattle.text.specs.Grammar.{Made-of, Text, Begins}
 use Rattle.text.specs.Trees.{Tree, quoted, integer, bracket, Trees, none, more, table}
 use Rattle.text.specs.declared.fault.TextFault.{TextFault}
 use Rattle.text.specs.declared.fault.TextFault.the-variants.{Limit, Broken, NoMemory}
 use Rattle.text.specs.declared.nodes.Nodes.{Nodes}
+use Rattle.text.specs.declared.part.Part.{Part}
 
 -- The nodes of a tree, each with its place and its level, a node before its parts.
 unfoldable mutual
@@ -56,10 +58,27 @@ pub record Passes (p : ℕ) (t : Tree) : Type 0 where
   pub fits : Fits earlier
   pub over : (length earlier ≡ 4096) ⊎ (level ≡ 33)
 
+-- The bytes of a part of a text.
+abbrev pub bytes-of : List ℕ → Part → List ℕ
+bytes-of text p = take (p .len) (drop (p .at) text)
+
+-- The parts that a tree names lie within the text: behind its first quote, a quoted text has bytes that are neither quote nor
+-- backslash; a symbol has one byte or more, all of a symbol.
+abbrev mutual
+  pub Parts : List ℕ → Tree → Type 0
+  Parts text (quoted at p) = (p .at ≡ at + 1) × (length (bytes-of text p) ≡ p .len) × Made-of plain (bytes-of text p)
+  Parts text (integer at n) = Unit {0}
+  Parts text (bracket at s ts) = (0 < s .len) × (length (bytes-of text s) ≡ s .len) × Made-of symbol (bytes-of text s) × Parts-all text ts
+
+  pub Parts-all : List ℕ → Trees → Type 0
+  Parts-all text none = Unit {0}
+  Parts-all text (more t ts) = Parts text t × Parts-all text ts
+
 -- The text spells this tree and no other, within all limits.
 pub record Spelled (text : List ℕ) (t : Tree) : Type 0 where
   pub spells : Text text t
   pub only : (u : Tree) → Text text u → u ≡ t
+  pub parts : Parts text t
   pub fits : Fits (nodes 1 t)
   pub short : length text ≤ 65535
 
@@ -68,7 +87,7 @@ pub record Breaks (text : List ℕ) (p : ℕ) : Type 0 where
   pub within : p ≤ length text
   pub short : p ≤ 65535
   pub begins : Begins (take p text)
-  pub ends : p < length text → Begins (take (p + 1) text) → ⊥
+  pub ends : p < length text → (more : List ℕ) (t : Tree) → Text (take (p + 1) text ++ more) t → ⊥
   pub unfinished : p ≡ length text → (t : Tree) → Text text t → ⊥
   pub fits : (more : List ℕ) (t : Tree) → Text (take p text ++ more) t → Fits-before p t
 
@@ -86,12 +105,20 @@ Lawful text (Err (Broken p)) = Breaks text p
 Lawful text (Err (Limit p)) = Exceeds text p
 Lawful text (Err NoMemory) = Unit {0}
 
--- A tree that a text spells within the limits is answered, want of memory aside.
+-- A text that spells a tree is answered with its table, unless a node or the length passes a limit; it is never broken.
+abbrev pub Known : List ℕ → Tree → Result Nodes TextFault → Type 0
+Known text t (Ok read) = vec-items (read .rows) ≡ table t
+Known text t (Err (Broken p)) = ⊥
+Known text t (Err (Limit p)) = Passes p t ⊎ ((p ≡ 65535) × (65535 < length text))
+Known text t (Err NoMemory) = Unit {0}
+
+-- Nothing within the limits is refused.
 abbrev pub Accepted : Tree → Result Nodes TextFault → Type 0
 Accepted t (Ok read) = vec-items (read .rows) ≡ table t
 Accepted t (Err (Broken p)) = ⊥
 Accepted t (Err (Limit p)) = ⊥
 Accepted t (Err NoMemory) = Unit {0}
 
-abbrev pub Accepts : List ℕ → Result Nodes TextFault → Type 0
-Accepts text r = (t : Tree) → Text text t → Fits (nodes 1 t) → length text ≤ 65535 → Accepted t r
+pub record Accepts (text : List ℕ) (r : Result Nodes TextFault) : Type 0 where
+  pub spelled : (t : Tree) → Text text t → Known text t r
+  pub within : (t : Tree) → Text text t → Fits (nodes 1 t) → length text ≤ 65535 → Accepted t r

@@ -9,3 +9,4 @@ pub mod Rows
 pub mod Standing
 pub mod Tokens
 pub mod Trees
+pub mod Walks

@@ -1,13 +1,12 @@
 -- Reading, byte by byte.
-use Prim.Native.Nat.{ℕ, suc, _+_, _*_, _-_}
-use mathlib.Core.Bool.{Bool, true, false, cond, _||_}
+use Prim.Native.Nat.{ℕ, _+_, _*_, _-_}
+use mathlib.Core.Bool.{Bool, cond}
 use mathlib.Core.List.{List, [], _∷_}
-use lib.ListN.{length}
 use lib.Dec.{leb}
 use Rattle.std.specs.declared.result.Result.{Result}
 use Rattle.std.specs.declared.result.Result.the-variants.{Ok, Err}
 use Rattle.text.specs.Bytes.{class}
-use Rattle.text.specs.Trees.{Tree, quoted, integer, bracket, Trees, none, more, add, sizes}
+use Rattle.text.specs.Trees.{Tree, quoted, integer, bracket, Trees, none, more, add}
 use Rattle.text.specs.declared.class.ByteClass.{ByteClass}
 use Rattle.text.specs.declared.class.ByteClass.the-variants.{Blank, Quote, Open, Close, Digit, Backslash, Other}
 use Rattle.text.specs.declared.fault.TextFault.{TextFault}

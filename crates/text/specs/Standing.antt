@@ -8,7 +8,7 @@ use Rattle.std.specs.declared.result.Result.the-variants.{Ok, Err}
 use Rattle.text.specs.Filling.{leaf-row}
 use Rattle.text.specs.Machine.{Frame, Point, before, inside, after, between, run}
 use Rattle.text.specs.Reading.{count, full}
-use Rattle.text.specs.Trees.{Tree, rows-all, table}
+use Rattle.text.specs.Trees.{rows-all, table}
 use Rattle.text.specs.declared.fault.TextFault.{TextFault}
 use Rattle.text.specs.declared.fault.TextFault.the-variants.{Limit, Broken, NoMemory}
 use Rattle.text.specs.declared.node.Node.{Node}

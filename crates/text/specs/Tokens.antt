@@ -1,10 +1,12 @@
 -- The token at the front of some bytes, whose first stands at `at`, and where it ends; or the fault.
-use Prim.Native.Nat.{ℕ, suc, _+_, _*_, _-_}
+use Prim.Native.Nat.{ℕ, _+_, _*_, _-_}
 use mathlib.Core.Path.{_≡_}
-use mathlib.Core.Bool.{Bool, true, false, cond, _&&_}
+use mathlib.Core.Bool.{Bool, cond, _&&_}
 use mathlib.Core.List.{List, [], _∷_}
-use lib.ListN.{length, drop}
-use lib.Dec.{eqb, ltb, leb}
+use lib.ListN.{drop}
+use lib.Dec.{eqb, leb}
+use Rattle.std.specs.declared.option.Option.{Option}
+use Rattle.std.specs.declared.option.Option.the-variants.{Some, None}
 use Rattle.std.specs.declared.result.Result.{Result}
 use Rattle.std.specs.declared.result.Result.the-variants.{Ok, Err}
 use Rattle.text.specs.Bytes.{class, blank, plain, symbol, begins, span}
@@ -43,6 +45,10 @@ opened at from len = cond (eqb len 0) (Err (Broken from)) (Ok (Open-token at (re
 -- The bytes after an opening bracket at `at`.
 abbrev pub opening : ℕ → List ℕ → Lexed
 opening at bs = opened at (at + 1 + span blank bs) (span symbol (drop (span blank bs) bs))
+
+-- The value `n` with one digit more, if an integer may have it.
+abbrev pub longer : ℕ → ℕ → Option ℕ
+longer n b = cond (leb (n * 10 + (b - 48)) 4294967295) (Some (n * 10 + (b - 48))) None
 
 -- A byte after the digits before `at` of an integer that begins at `from`, whose value is `n`, or `m` with this byte as a digit.
 abbrev pub number-next : ℕ → ℕ → ℕ → ℕ → Lexed → ByteClass → Lexed

@@ -3,7 +3,6 @@ use Prim.Native.Nat.{ℕ, suc, _+_}
 use mathlib.Core.List.{List, [], _∷_, _++_}
 use Rattle.text.specs.declared.part.Part.{Part}
 use Rattle.text.specs.declared.node.Node.{Node}
-use Rattle.text.specs.declared.node.NodeKind.{NodeKind}
 use Rattle.text.specs.declared.node.NodeKind.the-variants.{Quoted, Integer, Bracket}
 
 -- A node has the place of its first byte: a quote, a digit, an opening bracket. A quoted text has the part of the text

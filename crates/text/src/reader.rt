@@ -1,11 +1,10 @@
 // A reader over borrowed text, token by token.
 ghost use mathlib.Core.Path.{_≡_};
-ghost use mathlib.Core.Bool.{Bool};
 ghost use Prim.Native.Nat.{_+_, _<_};
-ghost use lib.ListN.{length, drop, getD};
+ghost use lib.ListN.{length, drop};
 ghost use Rattle.text.specs.Bytes.{class, takes, span};
 ghost use Rattle.text.specs.declared.class.Run.the-variants.{Blanks};
-ghost use Rattle.text.specs.Tokens.{lex, token, quoted, number, opening, Read};
+ghost use Rattle.text.specs.Tokens.{lex, token, quoted, number, longer, opening, Read};
 use crate::class::ByteClass;
 use crate::class::Run;
 use crate::class::class_of;
@@ -37,7 +36,7 @@ impl<'a> Reader<'a> {
     }
 
     // The place of the next byte that is no blank, or the text's length.
-    pub fn rest(&self) -> usize
+    pub fn after_blanks(&self) -> usize
         ensures { λ r. ⌜ r ≡ now (self .entry) .at + span (takes Blanks) (drop (now (self .entry) .at) (now (now (self .entry) .text))) ⌝ }
     {
         Run::Blanks.end(self.text, self.at)
@@ -127,17 +126,25 @@ fn integer(text: &[u8], at: usize) -> Result<(Token, usize), TextFault>
     let mut i = at;
     while i < text.len() {
         match class_of(text[i]) {
-            ByteClass::Digit => {
-                let next = value as u64 * 10 + (text[i] - b'0') as u64;
-                if next > 4_294_967_295 {
-                    return Err(TextFault::Broken { at: i });
-                }
-                value = next as u32;
-            }
+            ByteClass::Digit => match with_digit(value, text[i]) {
+                Some(longer) => value = longer,
+                None => return Err(TextFault::Broken { at: i }),
+            },
             ByteClass::Backslash | ByteClass::Other => return Err(TextFault::Broken { at: i }),
             _ => return Ok((Token::Integer { at, value }, i)),
         }
         i += 1;
     }
     Ok((Token::Integer { at, value }, i))
+}
+
+// The value with one digit more, if an integer may have it.
+fn with_digit(value: u32, digit: u8) -> Option<u32>
+    ensures { λ r. ⌜ r ≡ longer value digit ⌝ }
+{
+    let next = u64::from(value) * 10 + u64::from(digit.saturating_sub(b'0'));
+    if next > 4_294_967_295 {
+        return None;
+    }
+    Some(next as u32)
 }

@@ -54,7 +54,7 @@ fn read_all(heap: Global, text: &[u8]) -> Result<Nodes, TextFault>
     let mut reader = Reader::new(text);
     let mut table = Table::new(heap);
     read_term(&mut reader, &mut table)?;
-    let end = reader.rest();
+    let end = reader.after_blanks();
     if end < text.len() {
         return Err(TextFault::Broken { at: end });
     }

@@ -1,8 +1,12 @@
 // Texts made by hand, each with its outcome: the number of rows, or the refusal's number and place.
+use crate::fault::TextFault;
 use crate::fault::TextFaultDebug;
 use crate::node::Node;
 use crate::node::NodeKind;
+use crate::part::Part;
 use crate::read_text;
+use crate::reader::Reader;
+use crate::token::Token;
 use std::alloc::AllocError;
 use std::alloc::Global;
 use std::test::*;
@@ -16,6 +20,34 @@ fn outcome(heap: Global, text: &[u8]) -> (u8, usize) {
             None => (255, 0),
         },
     }
+}
+
+// The text is read, into this many rows.
+fn reads(heap: Global, text: &[u8], rows: usize) -> Result<(), Fail> {
+    check_eq(outcome(heap, text), (0, rows))
+}
+
+// The text is broken at this place.
+fn breaks(heap: Global, text: &[u8], place: usize) -> Result<(), Fail> {
+    check_eq(outcome(heap, text), (2, place))
+}
+
+// Brackets in brackets.
+fn deep(heap: Global, depth: usize, expected: (u8, usize)) -> Result<(), Fail> {
+    let text = nested(heap, depth)?;
+    check_eq(outcome(heap, text.as_slice()), expected)
+}
+
+// Parts under one bracket.
+fn wide(heap: Global, parts: usize, expected: (u8, usize)) -> Result<(), Fail> {
+    let text = flat(heap, parts)?;
+    check_eq(outcome(heap, text.as_slice()), expected)
+}
+
+// A long quoted text.
+fn lengthy(heap: Global, inside: usize, end: &[u8], expected: (u8, usize)) -> Result<(), Fail> {
+    let text = long(heap, inside, end)?;
+    check_eq(outcome(heap, text.as_slice()), expected)
 }
 
 // `(a` as often as told, and as many closing brackets.
@@ -41,7 +73,7 @@ fn flat(heap: Global, parts: usize) -> Result<Vec<u8>, AllocError> {
     Ok(text)
 }
 
-// A quoted text in as many bytes as told, quotes included, and then some bytes.
+// A first quote, as many bytes as told, and an end.
 fn long(heap: Global, inside: usize, end: &[u8]) -> Result<Vec<u8>, AllocError> {
     let mut text = Vec::new(heap);
     text.push(b'"')?;
@@ -52,72 +84,86 @@ fn long(heap: Global, inside: usize, end: &[u8]) -> Result<Vec<u8>, AllocError> 
     Ok(text)
 }
 
+// Terms, with blanks around them or none.
 #[test]
-fn texts(rt: LibcRuntime) -> Result<(), Fail> {
+fn terms(rt: LibcRuntime) -> Result<(), Fail> {
     let heap = rt.alloc();
-    check_eq(outcome(heap, b"\"a\""), (0, 1))?;
-    check_eq(outcome(heap, b" \t\r\n\"\" "), (0, 1))?;
-    check_eq(outcome(heap, b"4294967295"), (0, 1))?;
-    check_eq(outcome(heap, b"0004294967295\n"), (0, 1))?;
-    check_eq(outcome(heap, b"(comm 1\"m\"\"h\"\"n\")"), (0, 5))?;
-    check_eq(outcome(heap, b"( tuple \"a\")"), (0, 2))?;
-    check_eq(outcome(heap, b"(12 \"a\")"), (0, 2))?;
-    check_eq(outcome(heap, b"(a\\\x00\xff(b)(c))"), (0, 3))?;
-    check_eq(outcome(heap, b"(a(b 1)2)"), (0, 4))
+    reads(heap, b"\"a\"", 1)?;
+    reads(heap, b" \t\r\n\"\" ", 1)?;
+    reads(heap, b"4294967295", 1)?;
+    reads(heap, b"0004294967295\n", 1)?;
+    reads(heap, b"(comm 1\"m\"\"h\"\"n\")", 5)
 }
 
+// Brackets, and symbols of any bytes.
 #[test]
-fn broken_texts(rt: LibcRuntime) -> Result<(), Fail> {
+fn brackets(rt: LibcRuntime) -> Result<(), Fail> {
     let heap = rt.alloc();
-    check_eq(outcome(heap, b""), (2, 0))?;
-    check_eq(outcome(heap, b"  "), (2, 2))?;
-    check_eq(outcome(heap, b"x"), (2, 0))?;
-    check_eq(outcome(heap, b")"), (2, 0))?;
-    check_eq(outcome(heap, b"()"), (2, 1))?;
-    check_eq(outcome(heap, b"( \"a\")"), (2, 2))?;
-    check_eq(outcome(heap, b"(a"), (2, 2))?;
-    check_eq(outcome(heap, b"(a x)"), (2, 3))?;
-    check_eq(outcome(heap, b"\"ab"), (2, 3))?;
-    check_eq(outcome(heap, b"\"a\\b\""), (2, 2))?;
-    check_eq(outcome(heap, b"12x"), (2, 2))?;
-    check_eq(outcome(heap, b"12(a)"), (2, 2))?;
-    check_eq(outcome(heap, b"4294967296"), (2, 9))?;
-    check_eq(outcome(heap, b"(a) (b\\"), (2, 4))?;
-    check_eq(outcome(heap, b"1)"), (2, 1))
+    reads(heap, b"( tuple \"a\")", 2)?;
+    reads(heap, b"(12 \"a\")", 2)?;
+    reads(heap, b"(a\\\x00\xff(b)(c))", 3)?;
+    reads(heap, b"(a(b 1)2)", 4)
+}
+
+// Texts without a term, and an unfinished one.
+#[test]
+fn no_term(rt: LibcRuntime) -> Result<(), Fail> {
+    let heap = rt.alloc();
+    breaks(heap, b"", 0)?;
+    breaks(heap, b"  ", 2)?;
+    breaks(heap, b"x", 0)?;
+    breaks(heap, b")", 0)
+}
+
+// Brackets that lack something.
+#[test]
+fn no_symbol(rt: LibcRuntime) -> Result<(), Fail> {
+    let heap = rt.alloc();
+    breaks(heap, b"()", 1)?;
+    breaks(heap, b"( \"a\")", 2)?;
+    breaks(heap, b"(a", 2)?;
+    breaks(heap, b"(a x)", 3)
+}
+
+// Quoted texts and integers that break.
+#[test]
+fn bad_tokens(rt: LibcRuntime) -> Result<(), Fail> {
+    let heap = rt.alloc();
+    breaks(heap, b"\"ab", 3)?;
+    breaks(heap, b"\"a\\b\"", 2)?;
+    breaks(heap, b"12x", 2)?;
+    breaks(heap, b"4294967296", 9)
+}
+
+// More than one term.
+#[test]
+fn trailing(rt: LibcRuntime) -> Result<(), Fail> {
+    let heap = rt.alloc();
+    breaks(heap, b"12(a)", 2)?;
+    breaks(heap, b"(a) (b\\", 4)?;
+    breaks(heap, b"1)", 1)
 }
 
 // Thirty-two levels and four thousand parts under one bracket read alike: reading does not call itself.
 #[test]
 fn deep_and_wide(rt: LibcRuntime) -> Result<(), Fail> {
     let heap = rt.alloc();
-    check_eq(outcome(heap, nested(heap, 32)?.as_slice()), (0, 32))?;
-    check_eq(outcome(heap, nested(heap, 33)?.as_slice()), (1, 64))?;
-    check_eq(outcome(heap, flat(heap, 4000)?.as_slice()), (0, 4001))?;
-    check_eq(outcome(heap, flat(heap, 4095)?.as_slice()), (0, 4096))?;
-    check_eq(outcome(heap, flat(heap, 4096)?.as_slice()), (1, 8193))
+    deep(heap, 32, (0, 32))?;
+    deep(heap, 33, (1, 64))?;
+    wide(heap, 4000, (0, 4001))?;
+    wide(heap, 4095, (0, 4096))?;
+    wide(heap, 4096, (1, 8193))
 }
 
+// Texts about as long as a text may be.
 #[test]
 fn long_texts(rt: LibcRuntime) -> Result<(), Fail> {
     let heap = rt.alloc();
-    check_eq(outcome(heap, long(heap, 65533, b"\"")?.as_slice()), (0, 1))?;
-    check_eq(
-        outcome(heap, long(heap, 65533, b"\" ")?.as_slice()),
-        (1, 65535),
-    )?;
-    check_eq(
-        outcome(heap, long(heap, 65533, b"\"x")?.as_slice()),
-        (2, 65535),
-    )?;
-    check_eq(
-        outcome(heap, long(heap, 65534, b"\\")?.as_slice()),
-        (2, 65535),
-    )?;
-    check_eq(
-        outcome(heap, long(heap, 65600, b"\"")?.as_slice()),
-        (1, 65535),
-    )?;
-    check_eq(outcome(heap, long(heap, 9, b"\\")?.as_slice()), (2, 10))
+    lengthy(heap, 65533, b"\"", (0, 1))?;
+    lengthy(heap, 65533, b"\" ", (1, 65535))?;
+    lengthy(heap, 65533, b"\"x", (2, 65535))?;
+    lengthy(heap, 65534, b"\\", (2, 65535))?;
+    lengthy(heap, 65600, b"\"", (1, 65535))
 }
 
 // Where a row stands, where it ends, and the place and length of its symbol or quoted text, or its value.
@@ -137,4 +183,26 @@ fn rows(rt: LibcRuntime) -> Result<(), Fail> {
     check_eq(shown(nodes.rows[1]), (6, 3, 7, 1))?;
     check_eq(shown(nodes.rows[2]), (9, 3, 7, 0))?;
     check_eq(shown(nodes.rows[3]), (11, 4, 12, 2))
+}
+
+// A part of a text, also where it reaches past the end.
+#[test]
+fn parts() -> Result<(), Fail> {
+    let text: &[u8] = b"abcd";
+    check(Part { at: 1, len: 2 }.of(text) == &text[1..3])?;
+    check(Part { at: 3, len: 5 }.of(text) == &text[3..4])?;
+    check(Part { at: 9, len: 1 }.of(text).is_empty())
+}
+
+// Tokens, and where the reader stands: a fault leaves it in its place.
+#[test]
+fn tokens() -> Result<(), Fail> {
+    let mut reader = Reader::new(b" (a\"b\")");
+    check(matches!(reader.next(true), Err(TextFault::Limit { at: 1 })))?;
+    check_eq(reader.at, 0)?;
+    check(matches!(reader.next(false), Ok(Token::Open { at: 1, symbol: _ })))?;
+    check_eq(reader.at, 3)?;
+    check(matches!(reader.next(false), Ok(Token::Quoted { at: 3, inside: _ })))?;
+    check(matches!(reader.next(true), Ok(Token::Close { at: 6 })))?;
+    check_eq(reader.after_blanks(), 7)
 }

@@ -1,12 +1,11 @@
-use native.Mathlib.Omega.{arith}
 use mathlib.Core.Path.{sym, _∙_}
 use mathlib.Core.Logic.{inl, inr, ⊎-elim}
-use Rattle.text.proofs.Lexing.{number-more, number-large, number-symbol, number-ends, number-past}
+use Rattle.text.proofs.Lexing.{number-longer, number-no-longer, number-symbol, number-ends, number-past}
 use Rattle.text.proofs.reader.integer.Needs as need
 
-pub returns-then-next-gt4294967295 : need.returns-then-next-gt4294967295
-returns-then-next-gt4294967295 c =
-    sym (c .loop-i .inv .0 ∙ number-large (c .args .text .now) (c .args .at) (c .loop-i .i) (c .loop-i .value) (c .loop-i-test .taken) (sym (c .in-Digit .ensures tt)) (c .if-next-gt4294967295 .taken))
+pub returns-in-None : need.returns-in-None
+returns-in-None c =
+    sym (c .loop-i .inv .0 ∙ number-no-longer (c .args .text .now) (c .args .at) (c .loop-i .i) (c .loop-i .value) (c .loop-i-test .taken) (sym (c .in-Digit .ensures tt)) (c .in-None .ensures tt))
 
 pub returns-in-Backslash : need.returns-in-Backslash
 returns-in-Backslash c =
@@ -17,10 +16,9 @@ returns-in-rest c =
     sym (c .loop-i .inv .0 ∙ number-ends (c .args .text .now) (c .args .at) (c .loop-i .i) (c .loop-i .value) (c .loop-i-test .taken) (c .class-of .result) (c .class-of .ensures) (c .in-rest .not-Digit) (c .in-rest .not-Backslash) (c .in-rest .not-Other))
 
 pub loop-i-again : need.loop-i-again
-loop-i-again c = (
-  c .loop-i .inv .0 ∙ number-more (c .args .text .now) (c .args .at) (c .loop-i .i) (c .loop-i .value) (c .loop-i-test .taken) (sym (c .in-Digit .ensures tt)) (c .if-next-gt4294967295 .left),
-  omega arith,
-)
+loop-i-again c =
+    let l = number-longer (c .args .text .now) (c .args .at) (c .loop-i .i) (c .loop-i .value) (c .loop-i-test .taken) (sym (c .in-Digit .ensures tt)) (c .in-Some .longer) (c .in-Some .ensures tt) in
+    (c .loop-i .inv .0 ∙ l .0, l .1)
 
 pub returns : need.returns
 returns c =

@@ -1,10 +1,11 @@
 use denote.Ref.{now}
-use mathlib.Core.Path.{refl, ap}
+use mathlib.Core.Path.{ap}
 use Rattle.std.proofs.shelf.Results.{err-from-errBy}
 use Rattle.std.specs.Of.Vec.{vec-items}
 use Rattle.text.specs.Trees.{quoted, integer, rows}
 use Rattle.text.specs.declared.node.NodeKind.the-variants.{Quoted, Integer, Bracket}
 use Rattle.text.proofs.Forward.{moved}
+use Rattle.text.proofs.Sound.{sound-of}
 use Rattle.text.proofs.Filled.{added-on, entered-on, closed-on}
 use Rattle.text.proofs.Leading.{lead-break, lead-add, lead-enter, lead-close}
 use Rattle.text.proofs.Passing.{turn}
@@ -64,7 +65,7 @@ returns-in-Close c =
     record {
       same = c .next .ensures .same;
       moved = closed-on _ _ _ (moved (c .args .reader .now .at) (c .next .last .self .at) (c .is-full-full .result) (now (c .args .reader .now .text)) (c .in-Continue-at .field-0) (c .in-Continue-at .ensures tt .read))
-          (vec-items (c .args .table .now .rows)) (vec-items (c .args .table .now .pending)) (record { few = c .args .table .now .few; onward = c .args .table .now .onward; within = c .args .table .now .within; inside = c .args .table .now .inside }) (c .in-Close .at) (c .close .result)
+          (vec-items (c .args .table .now .rows)) (vec-items (c .args .table .now .pending)) (sound-of (c .args .table .now)) (c .in-Close .at) (c .close .result)
           (vec-items (c .close .last .self .rows)) (vec-items (c .close .last .self .pending)) (c .close .ensures);
       leads = λ fs h.
           lead-close (now (c .args .reader .now .text)) (c .args .reader .now .at) (c .next .last .self .at) (c .is-full-full .result) (vec-items (c .args .table .now .rows)) (vec-items (c .args .table .now .pending)) (c .is-full-full .ensures) (c .in-Close .at) fs h (c .in-Continue-at .field-0) (c .in-Close .is) (c .in-Continue-at .ensures tt .read)
