@@ -1,1 +1,3 @@
 pub mod Shortened
+pub mod Printing
+pub mod Rows

@@ -8,23 +8,58 @@ use crate::parts::Parts;
 #[derive(Clone, Copy)]
 pub enum Action {
     // a register takes a term that the role starts from
-    Give { target: u16 },
+    Give {
+        target: u16,
+    },
     // a register takes a name made here
-    New { target: u16 },
+    New {
+        target: u16,
+    },
     // a register takes the message that arrives
-    Hear { target: u16 },
+    Hear {
+        target: u16,
+    },
     // the message of a register goes out
-    Say { source: u16 },
+    Say {
+        source: u16,
+    },
     // two registers must hold the same value
-    Same { left: u16, right: u16 },
+    Same {
+        left: u16,
+        right: u16,
+    },
     // a compound is built of the values of some registers
-    Crypt { target: u16, text: u16, key: u16 },
-    Tuple { target: u16, parts: Parts },
-    Apply { target: u16, function: u8, parts: Parts },
+    Crypt {
+        target: u16,
+        text: u16,
+        key: u16,
+    },
+    Tuple {
+        target: u16,
+        parts: Parts,
+    },
+    Apply {
+        target: u16,
+        function: u8,
+        parts: Parts,
+    },
     // a compound is taken apart into consecutive registers
-    OpenCrypt { target: u16, source: u16, key: u16 },
-    OpenTuple { first: u16, count: u8, source: u16 },
-    OpenApply { first: u16, count: u8, source: u16, function: u8 },
+    OpenCrypt {
+        target: u16,
+        source: u16,
+        key: u16,
+    },
+    OpenTuple {
+        first: u16,
+        count: u8,
+        source: u16,
+    },
+    OpenApply {
+        first: u16,
+        count: u8,
+        source: u16,
+        function: u8,
+    },
 }
 
 // The lines are numbered from 1, in their order; line 0 is the start.

@@ -31,7 +31,11 @@ impl LineFault {
             LineFault::Undeclared { at } => (7, at),
             LineFault::WrongType { at } => (8, at),
             LineFault::Repeated { at } => (9, at),
-            LineFault::Underivable { at, role: _, term: _ } => (10, at),
+            LineFault::Underivable {
+                at,
+                role: _,
+                term: _,
+            } => (10, at),
             LineFault::NoMemory => return None,
         };
         Some(Refusal {

@@ -58,7 +58,8 @@ impl Role {
             party,
             state: RoleState::new(heap),
         };
-        match role.state.start(&declarations.terms, &role.party, terms.as_slice()) {
+        match role.state
+            .start(&declarations.terms, &role.party, terms.as_slice()) {
             Ok(()) => {
                 role.end_line(0, name.at, limits)?;
                 Ok(role)

@@ -53,7 +53,9 @@ impl Translation {
         let sender_place = self.role(input, sender, line.sender)?;
         let receiver = self.declarations.principal(input.text, line.receiver)?;
         if receiver == sender {
-            return Err(LineFault::Repeated { at: line.receiver.at });
+            return Err(LineFault::Repeated {
+                at: line.receiver.at,
+            });
         }
         let receiver_place = self.role(input, receiver, line.receiver)?;
         self.message(input, number, line.message, sender_place, receiver_place)
@@ -93,9 +95,19 @@ impl Translation {
         let at = input.spec.place(message);
         let limits = input.limits;
         let before = self.declarations.terms.len();
-        let term = self.declarations.term(input.text, input.spec, message, limits)?;
+        let term = self.declarations
+            .term(input.text, input.spec, message, limits)?;
         let made = self.declarations.made_since(input.heap, before)?;
-        self.roles[sender].say(&self.declarations.terms, number, made.as_slice(), term, at, limits)?;
-        self.roles[receiver].hear(&self.declarations.terms, number, term, at, limits)
+        self.roles[sender]
+            .say(
+                &self.declarations.terms,
+                number,
+                made.as_slice(),
+                term,
+                at,
+                limits,
+            )?;
+        self.roles[receiver]
+            .hear(&self.declarations.terms, number, term, at, limits)
     }
 }

@@ -19,11 +19,16 @@ use std::alloc::Global;
 
 // a block has at most so many lines, a function so many parameters
 const MOST_LINES: usize = 64;
+
 const MOST_PARAMETERS: usize = 8;
 
 impl Source<'_> {
     pub fn spec(self, heap: Global) -> Result<Spec, ShapeFault> {
-        let Item::Bracket { at, symbol: Symbol::Spec } = self.item(0)? else {
+        let Item::Bracket {
+            at,
+            symbol: Symbol::Spec,
+        } = self.item(0)?
+        else {
             return Err(self.misfit(0));
         };
         self.counted(0, at, 5)?;
@@ -42,7 +47,9 @@ impl Source<'_> {
 
     // The node does not fit where it stands.
     fn misfit(self, node: usize) -> ShapeFault {
-        ShapeFault::Misfit { at: self.place(node) }
+        ShapeFault::Misfit {
+            at: self.place(node),
+        }
     }
 
     // A bracket must have so many parts.
@@ -54,7 +61,11 @@ impl Source<'_> {
     }
 
     fn declarations(self, spec: &mut Spec, node: usize) -> Result<(), ShapeFault> {
-        let Item::Bracket { at: _, symbol: Symbol::Declare } = self.item(node)? else {
+        let Item::Bracket {
+            at: _,
+            symbol: Symbol::Declare,
+        } = self.item(node)?
+        else {
             return Err(self.misfit(node));
         };
         let end = self.after(node);
@@ -91,7 +102,8 @@ impl Source<'_> {
                 self.counted(node, at, 1)?;
                 let term = spec.terms.len();
                 self.term(spec, node + 1)?;
-                spec.declarations.push(Declaration::EverybodyKnows { term })?;
+                spec.declarations
+                    .push(Declaration::EverybodyKnows { term })?;
                 Ok(())
             }
             _ => Err(ShapeFault::Misfit { at }),
@@ -105,12 +117,14 @@ impl Source<'_> {
         match self.item(kind)? {
             Item::Name(kind) => {
                 let kind = short(kind)?;
-                spec.declarations.push(Declaration::Value { name, kind, shared })?;
+                spec.declarations
+                    .push(Declaration::Value { name, kind, shared })?;
                 Ok(())
             }
-            Item::Bracket { at: _, symbol: Symbol::FunctionType(class) } if shared => {
-                self.function(spec, name, class, kind)
-            }
+            Item::Bracket {
+                at: _,
+                symbol: Symbol::FunctionType(class),
+            } if shared => { self.function(spec, name, class, kind) }
             _ => Err(self.misfit(kind)),
         }
     }
@@ -130,7 +144,9 @@ impl Source<'_> {
             return Err(self.misfit(node));
         }
         if count > MOST_PARAMETERS + 1 {
-            return Err(ShapeFault::Limit { at: self.place(node) });
+            return Err(ShapeFault::Limit {
+                at: self.place(node),
+            });
         }
         let end = self.after(node);
         let result = self.name(node + 1)?;
@@ -153,7 +169,11 @@ impl Source<'_> {
     }
 
     fn block(self, spec: &mut Spec, node: usize) -> Result<(), ShapeFault> {
-        let Item::Bracket { at, symbol: Symbol::Block } = self.item(node)? else {
+        let Item::Bracket {
+            at,
+            symbol: Symbol::Block,
+        } = self.item(node)?
+        else {
             return Err(self.misfit(node));
         };
         if self.count(node) > MOST_LINES {
@@ -204,7 +224,11 @@ impl Source<'_> {
 
     // A list of which no part is carried.
     fn section(self, node: usize, wanted: Section) -> Result<(), ShapeFault> {
-        let Item::Bracket { at, symbol: Symbol::Section(found) } = self.item(node)? else {
+        let Item::Bracket {
+            at,
+            symbol: Symbol::Section(found),
+        } = self.item(node)?
+        else {
             return Err(self.misfit(node));
         };
         if found != wanted {
@@ -213,7 +237,9 @@ impl Source<'_> {
         let first = node + 1;
         if first < self.after(node) {
             let _part = self.item(first)?;
-            return Err(ShapeFault::NotCarried { at: self.place(first) });
+            return Err(ShapeFault::NotCarried {
+                at: self.place(first),
+            });
         }
         Ok(())
     }

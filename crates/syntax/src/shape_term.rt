@@ -19,14 +19,21 @@ impl Source<'_> {
     // A term joins the specification's terms, a node before its parts.
     pub(crate) fn term(self, spec: &mut Spec, node: usize) -> Result<(), ShapeFault> {
         let form = self.form(node)?;
-        spec.terms.push(TermNode { at: self.place(node), form })?;
+        spec.terms
+            .push(TermNode {
+                at: self.place(node),
+                form,
+            })?;
         let first = node + 1;
         let second = self.after(first);
         let end = self.after(node);
         match form {
             Form::Name(_) => Ok(()),
             Form::Tuple { parts: _ } => self.terms(spec, first, end),
-            Form::Apply { function: _, parts: _ } => self.terms(spec, second, end),
+            Form::Apply {
+                function: _,
+                parts: _,
+            } => self.terms(spec, second, end),
             Form::Crypt => {
                 let third = self.after(second);
                 self.term(spec, first)?;
@@ -76,18 +83,26 @@ impl Source<'_> {
             return Err(ShapeFault::Limit { at });
         }
         let function = self.name(node + 1)?;
-        Ok(Form::Apply { function, parts: (count - 1) as u8 })
+        Ok(Form::Apply {
+            function,
+            parts: (count - 1) as u8,
+        })
     }
 
     // The mark behind a ciphertext's text and key.
     fn vanilla(self, node: usize) -> Result<(), ShapeFault> {
         let item = self.item(node)?;
-        if let Item::Bracket { at: _, symbol: Symbol::Vanilla } = item {
+        if let Item::Bracket {
+            at: _,
+            symbol: Symbol::Vanilla,
+        } = item {
             if self.count(node) == 0 {
                 return Ok(());
             }
         }
-        Err(ShapeFault::Misfit { at: self.place(node) })
+        Err(ShapeFault::Misfit {
+            at: self.place(node),
+        })
     }
 }
 

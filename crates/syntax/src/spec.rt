@@ -13,7 +13,11 @@ pub struct Name {
 #[derive(Clone, Copy)]
 pub enum Declaration {
     // a name with its type; a shared one is never made
-    Value { name: Name, kind: Name, shared: bool },
+    Value {
+        name: Name,
+        kind: Name,
+        shared: bool,
+    },
     // a function, with its result and its parameters: the names from `first` to `end` of the specification's parameters
     Function {
         name: Name,
@@ -23,8 +27,13 @@ pub enum Declaration {
         end: usize,
     },
     // starting knowledge of one party; a term is the number of its node
-    Knows { knower: Name, term: usize },
-    EverybodyKnows { term: usize },
+    Knows {
+        knower: Name,
+        term: usize,
+    },
+    EverybodyKnows {
+        term: usize,
+    },
 }
 
 #[derive(Clone, Copy)]

@@ -1,11 +1,11 @@
 // What is declared: names with their types, functions, starting knowledge; and the terms, by number.
 ghost use Prim.Native.Nat.{_≤_};
 ghost use Rattle.std.specs.Of.Vec.{vec-len};
-use syntax::symbol::FunctionClass;
 use crate::fault::TermFault;
 use crate::table::TermTable;
 use std::alloc::Global;
 use syntax::spec::Name;
+use syntax::symbol::FunctionClass;
 use text::part::Part;
 
 #[derive(Clone, Copy, PartialEq, Eq)]

@@ -10,11 +10,11 @@ use Rattle.roles.proofs.role.Role.hear.Needs as need
 pub returns-in-Ok : need.returns-in-Ok
 returns-in-Ok c =
     let e = c .in-Ok .ensures tt in record {
-  fits = kept (c .args .table .now) (c .args .limits) (c .args .line) (c .args .at) (c .args .self .now) (c .hear .last .self) _ (e .0) (record { knows = e .1; orderly = e .2 })
-      (c .end-line .last .self) (c .end-line .result) (c .end-line .ensures .rest);
-  plays = played (c .args .table .now) (c .args .limits) (c .args .line) (c .args .at) (c .args .self .now) (c .hear .last .self) _ (e .0) (record { knows = e .1; orderly = e .2 })
-      (c .end-line .last .self) (c .end-line .result) (c .end-line .ensures .rest) (c .end-line .ensures .ends);
-}
+      fits = kept (c .args .table .now) (c .args .limits) (c .args .line) (c .args .at) (c .args .self .now) (c .hear .last .self) _ (e .0) (record { knows = e .1; orderly = e .2 })
+          (c .end-line .last .self) (c .end-line .result) (c .end-line .ensures .rest);
+      plays = played (c .args .table .now) (c .args .limits) (c .args .line) (c .args .at) (c .args .self .now) (c .hear .last .self) _ (e .0) (record { knows = e .1; orderly = e .2 })
+          (c .end-line .last .self) (c .end-line .result) (c .end-line .ensures .rest) (c .end-line .ensures .ends);
+    }
 
 pub returns-in-Err : need.returns-in-Err
 returns-in-Err c = record {

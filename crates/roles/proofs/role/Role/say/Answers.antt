@@ -10,13 +10,13 @@ use Rattle.roles.proofs.role.Role.say.Needs as need
 pub returns-in-Ok : need.returns-in-Ok
 returns-in-Ok c =
     let e = c .in-Ok .ensures tt in record {
-  fits = kept (c .args .table .now) (c .args .limits) (c .args .line) (c .args .at) (c .args .self .now) (c .say .last .self) _ refl (record { knows = e .1; orderly = e .2 })
-      (c .end-line .last .self) (c .end-line .result) (c .end-line .ensures .rest);
-  plays = λ us l.
-      said-well (c .args .table .now) (c .args .limits) (c .args .line) (c .args .at) (c .args .self .now) (c .args .term) (c .args .made .now) us (c .say .last .self) (e .0) (c .end-line .last .self) (c .end-line .result)
-      (played (c .args .table .now) (c .args .limits) (c .args .line) (c .args .at) (c .args .self .now) (c .say .last .self) _ refl (record { knows = e .1; orderly = e .2 })
-      (c .end-line .last .self) (c .end-line .result) (c .end-line .ensures .rest) (c .end-line .ensures .ends));
-}
+      fits = kept (c .args .table .now) (c .args .limits) (c .args .line) (c .args .at) (c .args .self .now) (c .say .last .self) _ refl (record { knows = e .1; orderly = e .2 })
+          (c .end-line .last .self) (c .end-line .result) (c .end-line .ensures .rest);
+      plays = λ us l.
+          said-well (c .args .table .now) (c .args .limits) (c .args .line) (c .args .at) (c .args .self .now) (c .args .term) (c .args .made .now) us (c .say .last .self) (e .0) (c .end-line .last .self) (c .end-line .result)
+          (played (c .args .table .now) (c .args .limits) (c .args .line) (c .args .at) (c .args .self .now) (c .say .last .self) _ refl (record { knows = e .1; orderly = e .2 })
+          (c .end-line .last .self) (c .end-line .result) (c .end-line .ensures .rest) (c .end-line .ensures .ends));
+    }
 
 pub returns-in-Err : need.returns-in-Err
 returns-in-Err c = record {

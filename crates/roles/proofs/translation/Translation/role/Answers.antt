@@ -14,8 +14,8 @@ returns c =
     let p = length-push (vec-items (c .args .self .now .roles)) (c .in-Continue-role .role) in
     let k = c .args .self .now .roles .ok .0 in
     let n = c .len-place .ensures in (
-  subst⁻¹ (All-fit (c .args .self .now .declarations .terms)) e
-      (all-fit-push (c .args .self .now .declarations .terms) (vec-items (c .args .self .now .roles)) (c .in-Continue-role .role) (c .pre) (c .in-Continue-role .ensures tt)),
-  omega arith,
-  omega arith,
-)
+      subst⁻¹ (All-fit (c .args .self .now .declarations .terms)) e
+          (all-fit-push (c .args .self .now .declarations .terms) (vec-items (c .args .self .now .roles)) (c .in-Continue-role .role) (c .pre) (c .in-Continue-role .ensures tt)),
+      omega arith,
+      omega arith,
+    )
