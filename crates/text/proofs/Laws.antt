@@ -12,7 +12,7 @@ use Rattle.std.specs.declared.result.Result.{Result}
 use Rattle.std.specs.declared.result.Result.the-variants.{Ok, Err}
 use Rattle.std.proofs.shelf.Tests.{leb-true, leb-false, ltb-true, ltb-false, cases-lt}
 use Rattle.text.specs.Grammar.{Text, Begins}
-use Rattle.text.specs.Law.{nodes, Shallow, Fits, Fits-before, Passes, Spelled, Breaks, Exceeds, Lawful, Known, Accepted, Accepts}
+use Rattle.text.specs.Law.{nodes, Shallow, Fits, Fits-before, Passes, Spelled, Breaks, Exceeds, Obeys, Lawful, Known, Accepted, Accepts}
 use Rattle.text.specs.Machine.{State, between, before, Step, broken, goes, begins, step}
 use Rattle.text.specs.Reading.{read, reading, too-long, Answers}
 use Rattle.text.specs.Trees.{Tree, table}
@@ -36,13 +36,6 @@ one-tree (b ∷ bs) at s T U h k = go (step at s b) (onward at b bs T s h) (onwa
     go broken h k ih = absurd h
     go (goes t) h k ih = ih t T U h k
     go (begins fs t) h k ih = ih t T U h k
-
--- One definition's answer, in the words of the grammar.
-abbrev pub Law-of : List ℕ → Result Tree TextFault → Type 0
-Law-of text (Ok t) = Spelled text t
-Law-of text (Err (Broken p)) = Breaks text p
-Law-of text (Err (Limit p)) = Exceeds text p
-Law-of text (Err NoMemory) = ⊥
 
 earlier-place : (p q : ℕ) (t : Tree) → p ≤ q → Fits-before q t → Fits-before p t
 earlier-place p q t l f = record { earlier = f .earlier; later = f .later; all = f .all; fits = f .fits; from = from-less p q l (f .later) (f .from) }
@@ -100,7 +93,7 @@ module _ (text : List ℕ) where
         over = inr (refl, λ more t s. earlier-place 65535 65536 t (omega arith) (f more t s));
       }
 
-  short-law : length text ≤ 65535 → (r : Result Tree TextFault) → Outcome 0 (between before) xs r → Law-of text r
+  short-law : length text ≤ 65535 → (r : Result Tree TextFault) → Outcome 0 (between before) xs r → Obeys text r
   short-law h (Ok t) o =
       let e = xs-whole h in
       let s = subst (λ ys. Text ys t) e (o .completes) in
@@ -113,7 +106,7 @@ module _ (text : List ℕ) where
   short-law h (Err (Limit p)) o = exceeds p o
   short-law h (Err NoMemory) o = o
 
-  long-law : 65535 < length text → (r : Result Tree TextFault) → Outcome 0 (between before) xs r → Law-of text (too-long r)
+  long-law : 65535 < length text → (r : Result Tree TextFault) → Outcome 0 (between before) xs r → Obeys text (too-long r)
   long-law h (Ok t) o =
       let n = xs-length in
       let e : 0 + length xs ≡ 65536 = omega arith in
@@ -121,7 +114,7 @@ module _ (text : List ℕ) where
   long-law h (Err (Limit p)) o = exceeds p o
   long-law h (Err (Broken p)) o = go (ltb p 65536) refl
     where
-      go : (b : Bool) → ltb p 65536 ≡ b → Law-of text (cond b (Err (Broken p)) (Err (Limit 65535)))
+      go : (b : Bool) → ltb p 65536 ≡ b → Obeys text (cond b (Err (Broken p)) (Err (Limit 65535)))
       go true q = let l = ltb-true p 65536 q in breaks p (omega arith) o
       go false q =
           let l = ltb-false p 65536 q in
@@ -134,21 +127,21 @@ module _ (text : List ℕ) where
           too-far h (subst Begins a (o .begins)) (λ more u s. subst (λ m. Fits-before m u) k (o .fits more u (subst (λ ys. Text (ys ++ more) u) (sym a) s)))
   long-law h (Err NoMemory) o = o
 
-  pub law : Law-of text (reading text)
+  pub law : Obeys text (reading text)
   law = go (leb (length text) 65535) refl
     where
       all : Outcome 0 (between before) xs (read xs)
       all = outcome xs 0 (between before) tt (record { few = omega arith; shallow = tt })
 
-      go : (b : Bool) → leb (length text) 65535 ≡ b → Law-of text (cond b (read text) (too-long (read xs)))
-      go true q = let l = leb-true (length text) 65535 q in subst (λ ys. Law-of text (read ys)) (xs-whole l) (short-law l (read xs) all)
+      go : (b : Bool) → leb (length text) 65535 ≡ b → Obeys text (cond b (read text) (too-long (read xs)))
+      go true q = let l = leb-true (length text) 65535 q in subst (λ ys. Obeys text (read ys)) (xs-whole l) (short-law l (read xs) all)
       go false q = long-law (leb-false (length text) 65535 q) (read xs) all
 
   -- What the code answers obeys the law.
   pub lawful : (r : Result Nodes TextFault) → Answers (reading text) r → Lawful text r
-  lawful (Ok n) (t, e, q) = (t, subst (Law-of text) e law, q)
-  lawful (Err (Broken p)) e = subst (Law-of text) e law
-  lawful (Err (Limit p)) e = subst (Law-of text) e law
+  lawful (Ok n) (t, e, q) = (t, subst (Obeys text) e law, q)
+  lawful (Err (Broken p)) e = subst (Obeys text) e law
+  lawful (Err (Limit p)) e = subst (Obeys text) e law
   lawful (Err NoMemory) e = tt
 
 -- What a tree within the limits cannot be refused for.
@@ -156,7 +149,7 @@ shallow-of : (ms ns : List (ℕ × ℕ)) (n : ℕ × ℕ) → Shallow (ms ++ (n 
 shallow-of [] ns n h = h .0
 shallow-of (m ∷ ms) ns n h = shallow-of ms ns n (h .1)
 
-fits-passes : (p : ℕ) (t : Tree) → Fits (nodes 1 t) → Passes p t → ⊥
+pub fits-passes : (p : ℕ) (t : Tree) → Fits (nodes 1 t) → Passes p t → ⊥
 fits-passes p t f o =
     let g = subst Fits (o .all) f in
     let l = g .few in
@@ -164,7 +157,7 @@ fits-passes p t f o =
     let s = shallow-of (o .earlier) (o .later) (p, o .level) (g .shallow) in
     ⊎-elim (λ e. omega arith) (λ e. omega arith) (o .over)
 
-front-text : (text : List ℕ) (n : ℕ) (t : Tree) → Text text t → Text (take n text ++ drop n text) t
+pub front-text : (text : List ℕ) (n : ℕ) (t : Tree) → Text text t → Text (take n text ++ drop n text) t
 front-text text n t s = subst (λ ys. Text ys t) (sym (take-append-drop n text)) s
 
 module _ (text : List ℕ) (t : Tree) (s : Text text t) where

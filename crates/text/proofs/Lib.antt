@@ -17,3 +17,4 @@ pub mod Outcome
 pub mod Laws
 pub mod Located
 pub mod Walks
+pub mod Decided

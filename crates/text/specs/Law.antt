@@ -9,6 +9,7 @@ use Rattle.std.specs.declared.result.Result.{Result}
 use Rattle.std.specs.declared.result.Result.the-variants.{Ok, Err}
 use Rattle.text.specs.Bytes.{plain, symbol}
 use Rattle.text.specs.Grammar.{Made-of, Text, Begins}
+use Rattle.text.specs.Reading.{reading}
 use Rattle.text.specs.Trees.{Tree, quoted, integer, bracket, Trees, none, more, table}
 use Rattle.text.specs.declared.fault.TextFault.{TextFault}
 use Rattle.text.specs.declared.fault.TextFault.the-variants.{Limit, Broken, NoMemory}
@@ -99,10 +100,22 @@ pub record Exceeds (text : List ℕ) (p : ℕ) : Type 0 where
   pub begins : Begins (take (p + 1) text)
   pub over : ((more : List ℕ) (t : Tree) → Text (take (p + 1) text ++ more) t → Passes p t) ⊎ ((p ≡ 65535) × ((more : List ℕ) (t : Tree) → Text (take (p + 1) text ++ more) t → Fits-before p t))
 
+-- The law of reading a text.
+abbrev pub Obeys : List ℕ → Result Tree TextFault → Type 0
+Obeys text (Ok t) = Spelled text t
+Obeys text (Err (Broken p)) = Breaks text p
+Obeys text (Err (Limit p)) = Exceeds text p
+Obeys text (Err NoMemory) = ⊥
+
+-- The law leaves one answer: that of the definition.
+abbrev pub Decided : List ℕ → Type 0
+Decided text = (o : Result Tree TextFault) → Obeys text o → o ≡ reading text
+
+-- An answer obeys the law, want of memory aside.
 abbrev pub Lawful : List ℕ → Result Nodes TextFault → Type 0
-Lawful text (Ok read) = (t : Tree) × Spelled text t × (vec-items (read .rows) ≡ table t)
-Lawful text (Err (Broken p)) = Breaks text p
-Lawful text (Err (Limit p)) = Exceeds text p
+Lawful text (Ok read) = (t : Tree) × Obeys text (Ok t) × (vec-items (read .rows) ≡ table t)
+Lawful text (Err (Broken p)) = Obeys text (Err (Broken p))
+Lawful text (Err (Limit p)) = Obeys text (Err (Limit p))
 Lawful text (Err NoMemory) = Unit {0}
 
 -- A text that spells a tree is answered with its table, unless a node or the length passes a limit; it is never broken.

@@ -5,7 +5,7 @@ ghost use Prim.Native.Nat.{_<_, _≤_};
 ghost use lib.ListN.{length};
 ghost use Rattle.std.specs.Results.{Cases};
 ghost use Rattle.std.specs.Of.Vec.{vec-items};
-ghost use Rattle.text.specs.Law.{Lawful, Accepts};
+ghost use Rattle.text.specs.Law.{Lawful, Decided, Accepts};
 ghost use Rattle.text.specs.Machine.{Frame, before, between, run};
 ghost use Rattle.text.specs.Reading.{full, reading, Answers, cut};
 ghost use Rattle.text.specs.Standing.{level, Stands, Leads, Begun, Whole};
@@ -22,6 +22,7 @@ use std::alloc::Global;
 pub fn read_text(heap: Global, text: &[u8]) -> Result<Nodes, TextFault>
     ensures answers { λ r. ⌜ Answers (reading (now (text .entry))) r ⌝ }
     ensures lawful { λ r. ⌜ Lawful (now (text .entry)) r ⌝ }
+    ensures decided { λ _. ⌜ Decided (now (text .entry)) ⌝ }
     ensures accepts { λ r. ⌜ Accepts (now (text .entry)) r ⌝ }
 {
     if text.len() <= 65535 {
