@@ -1,9 +1,8 @@
 -- Text that grows at its end.
-use Prim.Native.Nat.{ℕ, zero, suc, _+_, _<_, _≤_}
-use native.Mathlib.Omega.{arith}
+use Prim.Native.Nat.{ℕ, _+_, _<_, _≤_}
 use mathlib.Core.Path.{_≡_, refl, sym, ap, _∙_}
 use mathlib.Core.Bool.{true}
-use mathlib.Core.List.{List, [], _∷_, _++_, map}
+use mathlib.Core.List.{List, [], _∷_, _++_}
 use lib.ListN.{length, getD, drop}
 use Rattle.std.specs.Results.{isOk}
 use Rattle.std.specs.Vec.{made}
@@ -12,14 +11,7 @@ use Rattle.std.specs.declared.result.Result.{Result}
 use Rattle.std.specs.declared.result.Result.the-variants.{Ok, Err}
 use Rattle.std.proofs.shelf.Lists.{at-drop-more, at-drop-all}
 use Rattle.program.specs.Printed.{numbers}
-
-pub join : {X : Type 0} (a b c : List X) → (a ++ b) ++ c ≡ a ++ (b ++ c)
-join [] b c = refl
-join (x ∷ a) b c = ap (λ ys. x ∷ ys) (join a b c)
-
-pub append-none : {X : Type 0} (a : List X) → a ++ [] ≡ a
-append-none [] = refl
-append-none (x ∷ a) = ap (λ ys. x ∷ ys) (append-none a)
+use Rattle.program.proofs.Lists.{join, append-none}
 
 -- what holds where a call succeeds
 pub written : {A E : Type 0} (r : Result A E) (Q : Type 0) → (isOk r ≡ true → Q) → made r (λ _. Q)

@@ -12,7 +12,8 @@ use Rattle.program.specs.declared.action.Action.the-variants.{Tuple, Apply, Op
 use Rattle.program.specs.declared.parts.Parts.{Parts}
 use Rattle.program.specs.Parts.{parts-of}
 use Rattle.program.specs.Printed.{numbers, name, action-text}
-use Rattle.program.proofs.Printing.{join, made-then}
+use Rattle.program.proofs.Lists.{join}
+use Rattle.program.proofs.Printing.{made-then}
 
 -- a byte below 128 is written as it is
 pub byte-written : (b : Bool) (o o′ e : List ℕ) (x y : ℕ) → o′ ≡ cond b (o ++ e) o → b ≡ true → (x < 128 → e ≡ x ∷ []) → x ≡ y → y < 128 → o′ ≡ o ++ (y ∷ [])

@@ -1,3 +1,6 @@
 pub mod Parts
 pub mod Actions
 pub mod Printed
+pub mod Held
+pub mod Checked
+pub mod TakenUp

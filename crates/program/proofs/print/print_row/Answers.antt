@@ -3,7 +3,8 @@ use mathlib.Core.List.{_++_, map}
 use denote.Ref.{now as behind}
 use Rattle.std.specs.Of.String.{string-bytes}
 use Rattle.program.specs.Printed.{action-text}
-use Rattle.program.proofs.Printing.{join, made-then}
+use Rattle.program.proofs.Lists.{join}
+use Rattle.program.proofs.Printing.{made-then}
 use Rattle.program.proofs.print.print_row.Needs as need
 
 pub returns : need.returns

@@ -2,7 +2,8 @@ use mathlib.Core.Path.{refl, ap, _∙_}
 use mathlib.Core.List.{_++_}
 use Rattle.std.specs.Of.String.{string-bytes}
 use Rattle.program.specs.Printed.{numbers}
-use Rattle.program.proofs.Printing.{join, made-then}
+use Rattle.program.proofs.Lists.{join}
+use Rattle.program.proofs.Printing.{made-then}
 use Rattle.program.proofs.print.print_words.Needs as need
 
 pub returns : need.returns
