@@ -3,3 +3,4 @@ pub mod Scans
 pub mod Tables
 pub mod Interning
 pub mod Growing
+pub mod Naming
