@@ -4,3 +4,5 @@ pub mod Tables
 pub mod Interning
 pub mod Growing
 pub mod Naming
+pub mod Nodes
+pub mod Checking

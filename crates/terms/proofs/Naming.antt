@@ -76,3 +76,13 @@ module _ (text : List ℕ) (wanted : List ℕ) where
       go : (o : Option ℕ) → Found ds 0 o → _≡_ {A = Option ℕ} None o → None ≡ find-meaning text ds wanted
       go None f e = sym f
       go (Some j) f e = absurd (let z : _≡_ {A = ℕ} 0 1 = cc in omega arith)
+
+  -- what a name stands for is said of one of the names
+  pub meaning-place : (ds : List Declared) (m : Meaning) → find-meaning text ds wanted ≡ Some m → (k : ℕ) × ((k < length ds) × ((d : Declared) → getD ds k d .meaning ≡ m))
+  meaning-place [] m e = absurd (let z : _≡_ {A = ℕ} 0 1 = cc in omega arith)
+  meaning-place (x ∷ ds) m e = go (eq-bytes (bytes text (x .name)) wanted) e (λ q. meaning-place ds m q)
+    where
+      go : (b : Bool) → cond b (Some (x .meaning)) (find-meaning text ds wanted) ≡ Some m → (find-meaning text ds wanted ≡ Some m → (k : ℕ) × ((k < length ds) × ((d : Declared) → getD ds k d .meaning ≡ m)))
+          → (k : ℕ) × ((k < length (x ∷ ds)) × ((d : Declared) → getD (x ∷ ds) k d .meaning ≡ m))
+      go true e f = (0, (omega arith, λ d. cc))
+      go false e f = let p = f e in let h = p .1 .0 in (suc (p .0), (omega arith, p .1 .1))

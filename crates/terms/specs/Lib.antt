@@ -9,3 +9,4 @@ pub mod Typing
 pub mod Numbering
 pub mod Declaring
 pub mod Meanings
+pub mod Checked
