@@ -6,3 +6,6 @@ pub mod Growing
 pub mod Naming
 pub mod Nodes
 pub mod Checking
+pub mod Noting
+pub mod Reading
+pub mod ReadingParts

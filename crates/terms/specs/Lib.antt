@@ -10,3 +10,5 @@ pub mod Numbering
 pub mod Declaring
 pub mod Meanings
 pub mod Checked
+pub mod Narrow
+pub mod Reads

@@ -65,6 +65,12 @@ find-meaning text (d ∷ ds) wanted = cond (eq-bytes (bytes text (d .name)) want
 abbrev pub meaning-of : List ℕ → List Declared → Part → Option Meaning
 meaning-of text ds p = find-meaning text ds (bytes text p)
 
+-- the number of the function that a name stands for
+abbrev pub function-of : Option Meaning → Option ℕ
+function-of None = None
+function-of (Some (Value kind shared)) = None
+function-of (Some (Function f)) = Some f
+
 -- a function by its number
 abbrev pub no-function : Signature
 no-function = record { name = record { at = 0; len = 0 }; class = record { secret = false; «one_way» = false }; result = Number; parameters = [] }

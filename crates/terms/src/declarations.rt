@@ -3,7 +3,7 @@ ghost use mathlib.Core.Path.{_≡_};
 ghost use mathlib.Core.List.{[]};
 ghost use Prim.Native.Nat.{_≤_};
 ghost use Rattle.std.specs.Of.Vec.{vec-len, vec-items};
-ghost use Rattle.terms.specs.Scope.{number-of, meaning-of};
+ghost use Rattle.terms.specs.Scope.{number-of, meaning-of, function-of};
 ghost use Rattle.terms.specs.Declaring.{party-number};
 use syntax::symbol::FunctionClass;
 use crate::fault::TermFault;
@@ -106,6 +106,16 @@ impl Declarations {
             return None;
         }
         Some(self.names[number].meaning)
+    }
+
+    // The number of the function that a name stands for.
+    pub(crate) fn function_of(&self, text: &[u8], name: Part) -> Option<u8>
+        ensures { λ r. ⌜ r ≡ function-of (meaning-of (now (text .entry)) (vec-items (now (self .entry) .names)) name) ⌝ }
+    {
+        match self.meaning(text, name)? {
+            Meaning::Function(function) => Some(function),
+            Meaning::Value { kind: _, shared: _ } => None,
+        }
     }
 
     // The number of a party.

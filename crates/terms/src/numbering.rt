@@ -2,12 +2,13 @@
 ghost use mathlib.Core.Path.{_≡_};
 ghost use Prim.Native.Nat.{_<_, _≤_};
 ghost use lib.ListN.{length};
+ghost use Rattle.std.specs.Of.Vec.{vec-items};
 ghost use Rattle.std.specs.Vec.{made};
 ghost use Rattle.program.specs.Parts.{parts-of};
 ghost use Rattle.terms.specs.Shapes.{All-below};
 ghost use Rattle.terms.specs.Terms.{size, Grows};
+ghost use Rattle.terms.specs.Reads.{Same-names, Reads, Reads-all};
 use crate::declarations::Declarations;
-use crate::declarations::Meaning;
 use crate::declarations::ValueType;
 use crate::fault::TermFault;
 use crate::limits::Limits;
@@ -43,7 +44,9 @@ impl Declarations {
         term: usize,
         most: usize,
     ) -> Result<(u16, usize), TermFault>
-        ensures { λ r. ⌜ made r (λ p. (p .0 < size (now (self .exit) .terms)) × (term < p .1) × Grows (now (self .entry) .terms) (now (self .exit) .terms)) ⌝ }
+        ensures within { λ r. ⌜ made r (λ p. (p .0 < size (now (self .exit) .terms)) × (term < p .1) × Grows (now (self .entry) .terms) (now (self .exit) .terms)) ⌝ }
+        ensures same { λ _. ⌜ Same-names (now (self .entry)) (now (self .exit)) ⌝ }
+        ensures reads { λ r. ⌜ Reads (now (text .entry)) (vec-items (now (self .entry) .names)) (now (self .entry) .terms) (now (self .exit) .terms) (now (terms .entry)) most term r ⌝ }
     {
         if term >= terms.len() {
             return Err(TermFault::WrongType { at: 0 });
@@ -71,7 +74,7 @@ impl Declarations {
                 Ok((number, end))
             }
             Form::Apply { function, parts } => {
-                let Some(Meaning::Function(function)) = self.meaning(text, function.part) else {
+                let Some(function) = self.function_of(text, function.part) else {
                     return Err(TermFault::WrongType { at: function.at });
                 };
                 let (parts, end) = self.numbers(text, terms, next, parts, most)?;
@@ -91,7 +94,9 @@ impl Declarations {
         count: u8,
         most: usize,
     ) -> Result<(Parts, usize), TermFault>
-        ensures { λ r. ⌜ made r (λ p. All-below (size (now (self .exit) .terms)) (parts-of (p .0)) × (first ≤ p .1) × Grows (now (self .entry) .terms) (now (self .exit) .terms)) ⌝ }
+        ensures within { λ r. ⌜ made r (λ p. All-below (size (now (self .exit) .terms)) (parts-of (p .0)) × (first ≤ p .1) × Grows (now (self .entry) .terms) (now (self .exit) .terms)) ⌝ }
+        ensures same { λ _. ⌜ Same-names (now (self .entry)) (now (self .exit)) ⌝ }
+        ensures reads { λ r. ⌜ Reads-all (now (text .entry)) (vec-items (now (self .entry) .names)) (now (self .entry) .terms) (now (self .exit) .terms) (now (terms .entry)) most first count r ⌝ }
     {
         let mut parts = Parts::new();
         let mut next = first;
