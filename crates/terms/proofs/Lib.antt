@@ -9,3 +9,4 @@ pub mod Checking
 pub mod Noting
 pub mod Reading
 pub mod ReadingParts
+pub mod Terming

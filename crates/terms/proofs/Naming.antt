@@ -7,6 +7,7 @@ use mathlib.Core.Bool.{Bool, true, false, cond}
 use mathlib.Core.List.{List, [], _∷_}
 use lib.ListN.{length, getD, drop}
 use Rattle.std.specs.Lexical.{Matches}
+use Rattle.std.specs.Options.{isSome}
 use Rattle.std.specs.Orderings.{Decides}
 use Rattle.std.specs.declared.option.Option.{Option}
 use Rattle.std.specs.declared.option.Option.the-variants.{Some, None}
@@ -86,3 +87,12 @@ module _ (text : List ℕ) (wanted : List ℕ) where
           → (k : ℕ) × ((k < length (x ∷ ds)) × ((d : Declared) → getD (x ∷ ds) k d .meaning ≡ m))
       go true e f = (0, (omega arith, λ d. cc))
       go false e f = let p = f e in let h = p .1 .0 in (suc (p .0), (omega arith, p .1 .1))
+
+  -- a name that stands for something has a number
+  pub named-there : (ds : List Declared) (n : ℕ) (m : Meaning) → find-meaning text ds wanted ≡ Some m → isSome (find-from text n ds wanted) ≡ true
+  named-there [] n m e = absurd (let z : _≡_ {A = ℕ} 0 1 = cc in omega arith)
+  named-there (x ∷ ds) n m e = go (eq-bytes (bytes text (x .name)) wanted) e (λ q. named-there ds (n + 1) m q)
+    where
+      go : (b : Bool) → cond b (Some (x .meaning)) (find-meaning text ds wanted) ≡ Some m → (find-meaning text ds wanted ≡ Some m → isSome (find-from text (n + 1) ds wanted) ≡ true) → isSome (cond b (Some n) (find-from text (n + 1) ds wanted)) ≡ true
+      go true e f = refl
+      go false e f = f e

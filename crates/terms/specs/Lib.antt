@@ -12,3 +12,4 @@ pub mod Meanings
 pub mod Checked
 pub mod Narrow
 pub mod Reads
+pub mod Termed

@@ -1,6 +1,6 @@
 // The number of a term: equal terms have one, parts are numbered before the whole.
 ghost use mathlib.Core.Path.{_≡_};
-ghost use Prim.Native.Nat.{_<_, _≤_};
+ghost use Prim.Native.Nat.{_<_, _≤_, min};
 ghost use lib.ListN.{length};
 ghost use Rattle.std.specs.Of.Vec.{vec-items};
 ghost use Rattle.std.specs.Vec.{made};
@@ -8,6 +8,7 @@ ghost use Rattle.program.specs.Parts.{parts-of};
 ghost use Rattle.terms.specs.Shapes.{All-below};
 ghost use Rattle.terms.specs.Terms.{size, Grows};
 ghost use Rattle.terms.specs.Reads.{Same-names, Reads, Reads-all};
+ghost use Rattle.terms.specs.Termed.{Termed};
 use crate::declarations::Declarations;
 use crate::declarations::ValueType;
 use crate::fault::TermFault;
@@ -28,7 +29,7 @@ impl Declarations {
         term: usize,
         limits: Limits,
     ) -> Result<u16, TermFault>
-        ensures { λ r. ⌜ made r (λ k. (k < size (now (self .exit) .terms)) × Grows (now (self .entry) .terms) (now (self .exit) .terms)) ⌝ }
+        ensures { λ r. ⌜ Termed (now (text .entry)) (now (self .entry)) (now (self .exit)) (vec-items (now (spec .entry) .terms)) term (min (limits .terms) 512) r ⌝ }
     {
         let terms = spec.terms.as_slice();
         let _end = self.check(text, terms, term, ValueType::Number)?;
