@@ -10,3 +10,4 @@ pub mod Noting
 pub mod Reading
 pub mod ReadingParts
 pub mod Terming
+pub mod Collecting

@@ -13,3 +13,4 @@ pub mod Checked
 pub mod Narrow
 pub mod Reads
 pub mod Termed
+pub mod Starting
