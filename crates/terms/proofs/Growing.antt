@@ -6,7 +6,9 @@ use Rattle.std.specs.Of.Vec.{vec-items}
 use Rattle.terms.specs.declared.table.TermTable.{TermTable}
 use Rattle.terms.specs.Shapes.{Shape}
 use Rattle.terms.specs.Interned.{Numbers}
+use Rattle.terms.specs.declared.declarations.Declarations.{Declarations}
 use Rattle.terms.specs.Terms.{size, Grows}
+use Rattle.terms.specs.Reads.{Same-names}
 
 pub grows-same : (t : TermTable) → Grows t t
 grows-same t = record { longer = omega arith; kept = λ j h. refl }
@@ -27,3 +29,13 @@ module _ (t u : TermTable) (s : Shape) (k : ℕ) (i : Numbers (vec-items (t .row
 
   pub number-within : k < size u
   number-within = let a = u .rows .ok .0 in let b = i .within in omega arith
+
+-- nothing but the terms changed
+pub same-on : (a b c : Declarations) → Same-names a b → Same-names b c → Same-names a c
+same-on a b c s r = record {
+  names = r .names ∙ s .names;
+  functions = r .functions ∙ s .functions;
+  parameters = r .parameters ∙ s .parameters;
+  starts = r .starts ∙ s .starts;
+  rights = r .rights ∙ s .rights;
+}

@@ -3,3 +3,11 @@ pub mod Scans
 pub mod Tables
 pub mod Interning
 pub mod Growing
+pub mod Naming
+pub mod Nodes
+pub mod Checking
+pub mod Noting
+pub mod Reading
+pub mod ReadingParts
+pub mod Terming
+pub mod Collecting

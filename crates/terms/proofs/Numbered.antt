@@ -21,7 +21,7 @@ same-numbers f i j one [] (q ∷ qs) a b e = absurd (let z : _≡_ {A = ℕ} 0 1
 same-numbers f i j one (p ∷ ps) [] a b e = absurd (let z : _≡_ {A = ℕ} 0 1 = cc in omega arith)
 same-numbers f i j one (p ∷ ps) (q ∷ qs) a b e = ap₂ (λ (x : ℕ) (xs : List ℕ). x ∷ xs) (one p q (a .0) (b .0) (cc)) (same-numbers f i j one ps qs (a .1) (b .1) (cc))
 
-same-shape : (f : ℕ → Tree) (i j : ℕ) → ((p q : ℕ) → p < i → q < j → f p ≡ f q → p ≡ q) → (s t : Shape) → All-below i (numbers s) → All-below j (numbers t) → grown f s ≡ grown f t → s ≡ t
+pub same-shape : (f : ℕ → Tree) (i j : ℕ) → ((p q : ℕ) → p < i → q < j → f p ≡ f q → p ≡ q) → (s t : Shape) → All-below i (numbers s) → All-below j (numbers t) → grown f s ≡ grown f t → s ≡ t
 same-shape f i j one (named m) (named n) a b e = cc
 same-shape f i j one (named m) (formed h qs) a b e = absurd (let z : _≡_ {A = ℕ} 0 1 = cc in omega arith)
 same-shape f i j one (formed g ps) (named n) a b e = absurd (let z : _≡_ {A = ℕ} 0 1 = cc in omega arith)

@@ -9,7 +9,7 @@ use Rattle.terms.specs.declared.term.TermRow.{TermRow}
 use Rattle.terms.specs.declared.term.TermRow.the-variants.{Name, Compound}
 use Rattle.terms.specs.Shapes.{Shape, named, formed, grown, tree-of, All-below, numbers}
 use Rattle.terms.specs.Rows.{shape-of, shapes, row-at, term-tree, Ordered, Formed, Distinct, Stands}
-use Rattle.terms.proofs.Numbered.{tree-grown, one-number}
+use Rattle.terms.proofs.Numbered.{tree-grown, one-number, same-shape}
 
 all-below : (k : ℕ) (ps : List ℕ) → ((i : ℕ) → i < length ps → getD ps i 0 < k) → All-below k ps
 all-below k [] f = tt
@@ -45,3 +45,9 @@ module _ (rows : List TermRow) (ordered : Ordered rows) where
       let x = distinct a b (omega arith, omega arith) p in
       let y = distinct b a (omega arith, omega arith) (sym p) in
       omega arith) i j (omega arith) (omega arith)
+
+  -- the row of a tree
+  pub row-of-tree : Formed rows → Distinct rows → (s : Shape) (j : ℕ) → All-below (length rows) (numbers s) → j < length rows → term-tree rows j ≡ grown (term-tree rows) s → shape-of (row-at rows j) ≡ s
+  row-of-tree whole distinct s j b h e =
+      same-shape (term-tree rows) j (length rows) (λ p q l m. one-term distinct p q (omega arith) m) (shape-of (row-at rows j)) s (parts-below j h) b
+      (sym (stands whole j (row-at rows j) h refl .tree) ∙ e)

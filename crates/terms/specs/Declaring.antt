@@ -24,7 +24,7 @@ use Rattle.terms.specs.declared.fault.TermFault.the-variants as term-fault
 use Rattle.terms.specs.declared.fault.DeclarationFault.{DeclarationFault}
 use Rattle.terms.specs.declared.fault.DeclarationFault.the-variants.{Limit, Redeclared, Undeclared, WrongType, NoMemory}
 use Rattle.terms.specs.Refusals.{to-declaration}
-use Rattle.terms.specs.Scope.{Scope, Signature, Given, nothing-declared, bytes, eq-bytes, number-of, meaning-of}
+use Rattle.terms.specs.Scope.{Scope, Signature, Given, nothing-declared, bytes, eq-bytes, number-of, meaning-of, function-of}
 use Rattle.terms.specs.Typing.{and-then, typed}
 use Rattle.terms.specs.Numbering.{tree, read}
 
@@ -70,7 +70,7 @@ module _ (text : List ℕ) where
 
   -- a function's name alone is a right to apply it
   abbrev pub right-of : Scope → Term → Option ℕ
-  right-of S (name at p) = elim (meaning-of text (S .names) p) [ None ↦ None | Some m ↦ elim m [ Value kind shared ↦ None | Function f ↦ Some f ] ]
+  right-of S (name at p) = function-of (meaning-of text (S .names) p)
   right-of S (tuple at ts) = None
   right-of S (crypt at t k) = None
   right-of S (apply at f ts) = None

@@ -1,5 +1,5 @@
 -- What adding a row to a table does.
-use Prim.Native.Nat.{ℕ, _<_, _≤_}
+use Prim.Native.Nat.{ℕ, _+_, _<_, _≤_}
 use mathlib.Core.Path.{_≡_}
 use mathlib.Core.Logic.{_⊎_}
 use mathlib.Core.List.{List}
@@ -30,6 +30,11 @@ pub record Numbers (rows rows′ : List TermRow) (s : Shape) (k : ℕ) : Type 0 
   pub longer : length rows ≤ length rows′
   pub kept : (j : ℕ) → j < length rows → term-tree rows′ j ≡ term-tree rows j
 
+-- it was there, and nothing changed; or it was not, there was room for it, and it is the last
+abbrev pub Added : List TermRow → List TermRow → Shape → ℕ → ℕ → Type 0
+Added rows rows′ s most k =
+    (rows′ ≡ rows) ⊎ ((length rows′ ≡ length rows + 1) × (k ≡ length rows) × (length rows < most) × ((j : ℕ) → j < length rows → shape-of (row-at rows j) ≡ s → ⊥))
+
 -- a refusal leaves the rows as they were; one too many is refused at its place, if it is not there and there are `most` already
 abbrev pub Unchanged : List TermRow → List TermRow → Shape → ℕ → ℕ → TermFault → Type 0
 Unchanged rows rows′ s most p (Limit q) = (q ≡ p) × (rows′ ≡ rows) × (most ≤ length rows ⊎ 65535 < length rows) × ((k : ℕ) → k < length rows → shape-of (row-at rows k) ≡ s → ⊥)
@@ -38,5 +43,5 @@ Unchanged rows rows′ s most p (WrongType q) = ⊥
 Unchanged rows rows′ s most p NoMemory = rows′ ≡ rows
 
 abbrev pub Interned : List TermRow → List TermRow → Shape → ℕ → ℕ → Result ℕ TermFault → Type 0
-Interned rows rows′ s most p (Ok k) = Numbers rows rows′ s k
+Interned rows rows′ s most p (Ok k) = Numbers rows rows′ s k × Added rows rows′ s most k
 Interned rows rows′ s most p (Err f) = Unchanged rows rows′ s most p f

@@ -1,3 +1,4 @@
+pub mod Limits
 pub mod Shapes
 pub mod Rows
 pub mod Refusals
@@ -8,3 +9,8 @@ pub mod Typing
 pub mod Numbering
 pub mod Declaring
 pub mod Meanings
+pub mod Checked
+pub mod Narrow
+pub mod Reads
+pub mod Termed
+pub mod Starting

@@ -6,7 +6,9 @@ use lib.ListN.{length, getD, take, drop}
 use Rattle.std.specs.Of.Vec.{vec-items}
 use Rattle.model.specs.Trees.{Tree, leaf}
 use Rattle.terms.specs.declared.declarations.Declarations.{Declarations}
+use Rattle.terms.specs.declared.declarations.Declared.{Declared}
 use Rattle.terms.specs.declared.declarations.Function.{Function}
+use Rattle.terms.specs.declared.declarations.Meaning.the-variants as meaning
 use Rattle.terms.specs.declared.declarations.Start.{Start}
 use Rattle.terms.specs.declared.declarations.ValueType.{ValueType}
 use Rattle.terms.specs.declared.table.TermTable.{TermTable}
@@ -30,6 +32,8 @@ pub record Means (d : Declarations) (S : Scope) : Type 0 where
   pub functions : map (signature-in (vec-items (d .parameters))) (vec-items (d .functions)) ≡ S .functions
   -- the parameters of a function stand among all parameters
   pub within : (k : ℕ) (f : Function) → k < length (vec-items (d .functions)) → getD (vec-items (d .functions)) k f .end ≤ length (vec-items (d .parameters))
+  -- a function's name stands for one of the functions
+  pub defined : (k f : ℕ) (n : Declared) → k < length (vec-items (d .names)) → getD (vec-items (d .names)) k n .meaning ≡ meaning.Function f → f < length (vec-items (d .functions))
   pub starts : map (given-in (d .terms)) (vec-items (d .starts)) ≡ S .starts
   -- what a party starts from is a term of the table
   pub started : (k : ℕ) (s : Start) → k < length (vec-items (d .starts)) → getD (vec-items (d .starts)) k s .term < size (d .terms)

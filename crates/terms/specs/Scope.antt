@@ -1,5 +1,5 @@
 -- What is declared: names with what they stand for, functions, starting knowledge, and the terms read so far.
-use Prim.Native.Nat.{ℕ, suc}
+use Prim.Native.Nat.{ℕ, _+_}
 use mathlib.Core.Bool.{Bool, true, false, cond, _&&_}
 use mathlib.Core.List.{List, [], _∷_}
 use lib.ListN.{getD, take, drop}
@@ -52,7 +52,7 @@ eq-bytes (a ∷ ra) (b ∷ bs) = eqb a b && eq-bytes ra bs
 -- the number of a name, counted on from a number
 abbrev pub find-from : List ℕ → ℕ → List Declared → List ℕ → Option ℕ
 find-from text n [] wanted = None
-find-from text n (d ∷ ds) wanted = cond (eq-bytes (bytes text (d .name)) wanted) (Some n) (find-from text (suc n) ds wanted)
+find-from text n (d ∷ ds) wanted = cond (eq-bytes (bytes text (d .name)) wanted) (Some n) (find-from text (n + 1) ds wanted)
 
 abbrev pub number-of : List ℕ → List Declared → Part → Option ℕ
 number-of text ds p = find-from text 0 ds (bytes text p)
@@ -64,6 +64,12 @@ find-meaning text (d ∷ ds) wanted = cond (eq-bytes (bytes text (d .name)) want
 
 abbrev pub meaning-of : List ℕ → List Declared → Part → Option Meaning
 meaning-of text ds p = find-meaning text ds (bytes text p)
+
+-- the number of the function that a name stands for
+abbrev pub function-of : Option Meaning → Option ℕ
+function-of None = None
+function-of (Some (Value kind shared)) = None
+function-of (Some (Function f)) = Some f
 
 -- a function by its number
 abbrev pub no-function : Signature

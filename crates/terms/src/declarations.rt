@@ -1,6 +1,11 @@
 // What is declared: names with their types, functions, starting knowledge; and the terms, by number.
+ghost use mathlib.Core.Path.{_≡_};
+ghost use mathlib.Core.List.{[]};
 ghost use Prim.Native.Nat.{_≤_};
-ghost use Rattle.std.specs.Of.Vec.{vec-len};
+ghost use Rattle.std.specs.Of.Vec.{vec-len, vec-items};
+ghost use Rattle.terms.specs.Scope.{number-of, meaning-of, function-of};
+ghost use Rattle.terms.specs.Declaring.{party-number};
+use syntax::symbol::FunctionClass;
 use crate::fault::TermFault;
 use crate::table::TermTable;
 use std::alloc::Global;
@@ -66,7 +71,10 @@ pub struct Declarations {
 }
 
 impl Declarations {
-    pub fn new(heap: Global) -> Declarations {
+    pub fn new(heap: Global) -> Declarations
+        ensures values { λ r. ⌜ (vec-items (r .names) ≡ []) × (vec-items (r .functions) ≡ []) × (vec-items (r .parameters) ≡ []) ⌝ }
+        ensures known { λ r. ⌜ (vec-items (r .starts) ≡ []) × (vec-items (r .rights) ≡ []) × (vec-items (r .terms .rows) ≡ []) ⌝ }
+    {
         Declarations {
             names: Vec::new(heap),
             functions: Vec::new(heap),
@@ -78,7 +86,9 @@ impl Declarations {
     }
 
     // The number of a name.
-    pub fn find(&self, text: &[u8], name: Part) -> Option<u8> {
+    pub fn find(&self, text: &[u8], name: Part) -> Option<u8>
+        ensures { λ r. ⌜ r ≡ number-of (now (text .entry)) (vec-items (now (self .entry) .names)) name ⌝ }
+    {
         let wanted = name.of(text);
         for number in 0..self.names.len() {
             if self.names[number].name.of(text) == wanted {
@@ -89,7 +99,9 @@ impl Declarations {
     }
 
     // What a name stands for.
-    pub fn meaning(&self, text: &[u8], name: Part) -> Option<Meaning> {
+    pub fn meaning(&self, text: &[u8], name: Part) -> Option<Meaning>
+        ensures { λ r. ⌜ r ≡ meaning-of (now (text .entry)) (vec-items (now (self .entry) .names)) name ⌝ }
+    {
         let number = self.find(text, name)? as usize;
         if number >= self.names.len() {
             return None;
@@ -97,8 +109,20 @@ impl Declarations {
         Some(self.names[number].meaning)
     }
 
+    // The number of the function that a name stands for.
+    pub(crate) fn function_of(&self, text: &[u8], name: Part) -> Option<u8>
+        ensures { λ r. ⌜ r ≡ function-of (meaning-of (now (text .entry)) (vec-items (now (self .entry) .names)) name) ⌝ }
+    {
+        match self.meaning(text, name)? {
+            Meaning::Function(function) => Some(function),
+            Meaning::Value { kind: _, shared: _ } => None,
+        }
+    }
+
     // The number of a party.
-    pub fn principal(&self, text: &[u8], name: Name) -> Result<u8, TermFault> {
+    pub fn principal(&self, text: &[u8], name: Name) -> Result<u8, TermFault>
+        ensures { λ r. ⌜ r ≡ party-number name (number-of (now (text .entry)) (vec-items (now (self .entry) .names)) (name .part)) (meaning-of (now (text .entry)) (vec-items (now (self .entry) .names)) (name .part)) ⌝ }
+    {
         let at = name.at;
         let Some(number) = self.find(text, name.part) else {
             return Err(TermFault::Undeclared { at });

@@ -146,10 +146,7 @@ impl Declarations {
         let Form::Name(name) = spec.terms[term].form else {
             return None;
         };
-        match self.meaning(text, name)? {
-            Meaning::Function(function) => Some(function),
-            Meaning::Value { kind: _, shared: _ } => None,
-        }
+        self.function_of(text, name)
     }
 }
 

@@ -1,4 +1,7 @@
 // How much a translation may take. A caller may lower each limit; none goes above the standard one.
+ghost use mathlib.Core.Path.{_≡_};
+ghost use Rattle.terms.specs.Limits.{standard-limits};
+
 #[derive(Clone, Copy)]
 pub struct Limits {
     // names, functions among them
@@ -22,7 +25,9 @@ pub const MOST_REGISTERS: usize = 512;
 pub const MOST_ACTIONS: usize = 4096;
 
 impl Limits {
-    pub fn standard() -> Limits {
+    pub fn standard() -> Limits
+        ensures { λ r. ⌜ r ≡ standard-limits ⌝ }
+    {
         Limits {
             names: MOST_NAMES,
             terms: MOST_TERMS,

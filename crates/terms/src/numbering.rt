@@ -1,13 +1,15 @@
 // The number of a term: equal terms have one, parts are numbered before the whole.
 ghost use mathlib.Core.Path.{_≡_};
-ghost use Prim.Native.Nat.{_<_, _≤_};
+ghost use Prim.Native.Nat.{_<_, _≤_, min};
 ghost use lib.ListN.{length};
+ghost use Rattle.std.specs.Of.Vec.{vec-items};
 ghost use Rattle.std.specs.Vec.{made};
 ghost use Rattle.program.specs.Parts.{parts-of};
 ghost use Rattle.terms.specs.Shapes.{All-below};
 ghost use Rattle.terms.specs.Terms.{size, Grows};
+ghost use Rattle.terms.specs.Reads.{Same-names, Reads, Reads-all};
+ghost use Rattle.terms.specs.Termed.{Termed};
 use crate::declarations::Declarations;
-use crate::declarations::Meaning;
 use crate::declarations::ValueType;
 use crate::fault::TermFault;
 use crate::limits::Limits;
@@ -27,7 +29,7 @@ impl Declarations {
         term: usize,
         limits: Limits,
     ) -> Result<u16, TermFault>
-        ensures { λ r. ⌜ made r (λ k. (k < size (now (self .exit) .terms)) × Grows (now (self .entry) .terms) (now (self .exit) .terms)) ⌝ }
+        ensures { λ r. ⌜ Termed (now (text .entry)) (now (self .entry)) (now (self .exit)) (vec-items (now (spec .entry) .terms)) term (min (limits .terms) 512) r ⌝ }
     {
         let terms = spec.terms.as_slice();
         let _end = self.check(text, terms, term, ValueType::Number)?;
@@ -43,7 +45,9 @@ impl Declarations {
         term: usize,
         most: usize,
     ) -> Result<(u16, usize), TermFault>
-        ensures { λ r. ⌜ made r (λ p. (p .0 < size (now (self .exit) .terms)) × (term < p .1) × Grows (now (self .entry) .terms) (now (self .exit) .terms)) ⌝ }
+        ensures within { λ r. ⌜ made r (λ p. (p .0 < size (now (self .exit) .terms)) × (term < p .1) × Grows (now (self .entry) .terms) (now (self .exit) .terms)) ⌝ }
+        ensures same { λ _. ⌜ Same-names (now (self .entry)) (now (self .exit)) ⌝ }
+        ensures reads { λ r. ⌜ Reads (now (text .entry)) (vec-items (now (self .entry) .names)) (now (self .entry) .terms) (now (self .exit) .terms) (now (terms .entry)) most term r ⌝ }
     {
         if term >= terms.len() {
             return Err(TermFault::WrongType { at: 0 });
@@ -72,7 +76,7 @@ impl Declarations {
                 Ok((number, end))
             }
             Form::Apply { function, parts } => {
-                let Some(Meaning::Function(function)) = self.meaning(text, function.part) else {
+                let Some(function) = self.function_of(text, function.part) else {
                     return Err(TermFault::WrongType { at: function.at });
                 };
                 let (parts, end) = self.numbers(text, terms, next, parts, most)?;
@@ -92,7 +96,9 @@ impl Declarations {
         count: u8,
         most: usize,
     ) -> Result<(Parts, usize), TermFault>
-        ensures { λ r. ⌜ made r (λ p. All-below (size (now (self .exit) .terms)) (parts-of (p .0)) × (first ≤ p .1) × Grows (now (self .entry) .terms) (now (self .exit) .terms)) ⌝ }
+        ensures within { λ r. ⌜ made r (λ p. All-below (size (now (self .exit) .terms)) (parts-of (p .0)) × (first ≤ p .1) × Grows (now (self .entry) .terms) (now (self .exit) .terms)) ⌝ }
+        ensures same { λ _. ⌜ Same-names (now (self .entry)) (now (self .exit)) ⌝ }
+        ensures reads { λ r. ⌜ Reads-all (now (text .entry)) (vec-items (now (self .entry) .names)) (now (self .entry) .terms) (now (self .exit) .terms) (now (terms .entry)) most first count r ⌝ }
     {
         let mut parts = Parts::new();
         let mut next = first;

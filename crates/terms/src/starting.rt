@@ -1,11 +1,16 @@
 // What a party starts from, and what may be made.
 ghost use mathlib.Core.Path.{_≡_};
-ghost use mathlib.Core.Bool.{true};
-ghost use Prim.Native.Nat.{_<_};
+ghost use mathlib.Core.Bool.{_&&_};
+ghost use mathlib.Core.List.{map};
+ghost use lib.Dec.{ltb};
+ghost use lib.ListN.{drop};
 ghost use Rattle.std.specs.Of.Vec.{vec-items};
 ghost use Rattle.std.specs.Vec.{made};
 ghost use Rattle.terms.specs.Shapes.{All-below};
-ghost use Rattle.terms.specs.Terms.{size};
+ghost use Rattle.terms.specs.Terms.{size, tree-in};
+ghost use Rattle.terms.specs.Scope.{Scope};
+ghost use Rattle.terms.specs.Meanings.{Means};
+ghost use Rattle.terms.specs.Starting.{is-for, given-to, has-right, may-be-made, made-among};
 use crate::declarations::Declarations;
 use crate::declarations::Meaning;
 use crate::declarations::Start;
@@ -19,7 +24,8 @@ use std::alloc::Global;
 impl Declarations {
     // The terms that a party of this name starts from, in the order of declaration.
     pub fn starting_terms(&self, heap: Global, name: u8) -> Result<Vec<u16>, TermFault>
-        ensures { λ r. ⌜ made r (λ v. All-below (size (now (self .entry) .terms)) (vec-items v)) ⌝ }
+        ensures below { λ r. ⌜ made r (λ v. All-below (size (now (self .entry) .terms)) (vec-items v)) ⌝ }
+        ensures given { λ r. ⌜ made r (λ v. (S : Scope) → Means (now (self .entry)) S → map (tree-in (now (self .entry) .terms)) (vec-items v) ≡ given-to name (S .starts)) ⌝ }
     {
         let mut terms = Vec::new(heap);
         for start in self.starts.as_slice() {
@@ -31,13 +37,15 @@ impl Declarations {
     }
 
     fn starts_from(&self, start: Start, name: u8) -> bool
-        ensures { λ r. ⌜ (r ≡ true → start .term < size (now (self .entry) .terms)) ⌝ }
+        ensures { λ r. ⌜ r ≡ (is-for (start .knower) name && ltb (start .term) (size (now (self .entry) .terms))) ⌝ }
     {
         is_for(start.knower, name) && (start.term as usize) < self.terms.len()
     }
 
     // Whether a party of this name may apply a function though it is secret.
-    pub fn has_right(&self, name: u8, function: u8) -> bool {
+    pub fn has_right(&self, name: u8, function: u8) -> bool
+        ensures { λ r. ⌜ r ≡ has-right name function (vec-items (now (self .entry) .rights)) ⌝ }
+    {
         for right in self.rights.as_slice() {
             if right.function == function && is_for(right.knower, name) {
                 return true;
@@ -47,7 +55,9 @@ impl Declarations {
     }
 
     // The names that were numbered as terms from `before` on and may be made: no shared ones, and no principals.
-    pub fn made_since(&self, heap: Global, before: usize) -> Result<Vec<u8>, TermFault> {
+    pub fn made_since(&self, heap: Global, before: usize) -> Result<Vec<u8>, TermFault>
+        ensures { λ r. ⌜ made r (λ v. (S : Scope) → Means (now (self .entry)) S → vec-items v ≡ made-among (S .names) (drop before (S .terms))) ⌝ }
+    {
         let mut made = Vec::new(heap);
         for term in before..self.terms.len() {
             if let TermRow::Name(name) = self.terms.row(term as u16) {
@@ -59,7 +69,9 @@ impl Declarations {
         Ok(made)
     }
 
-    fn may_be_made(&self, name: u8) -> bool {
+    fn may_be_made(&self, name: u8) -> bool
+        ensures { λ r. ⌜ r ≡ may-be-made (vec-items (now (self .entry) .names)) name ⌝ }
+    {
         let number = name as usize;
         if number >= self.names.len() {
             return false;
@@ -72,7 +84,9 @@ impl Declarations {
 }
 
 // Is it for everybody, or for this party?
-fn is_for(knower: Option<u8>, name: u8) -> bool {
+fn is_for(knower: Option<u8>, name: u8) -> bool
+    ensures { λ r. ⌜ r ≡ is-for knower name ⌝ }
+{
     match knower {
         None => true,
         Some(knower) => knower == name,

@@ -1,6 +1,13 @@
 // The types of a term: a node before its parts.
+ghost use mathlib.Core.Path.{_≡_};
 ghost use Prim.Native.Nat.{_<_, _≤_};
+ghost use lib.ListN.{getD};
+ghost use Rattle.std.specs.Of.Vec.{vec-items};
 ghost use Rattle.std.specs.Vec.{made};
+ghost use Rattle.terms.specs.Scope.{meaning-of};
+ghost use Rattle.terms.specs.Typing.{fits as type-fits, name-fits};
+ghost use Rattle.terms.specs.Checked.{wanted-of, Applied, Checked, Checked-all};
+ghost use Rattle.terms.specs.declared.declarations.ValueType.the-variants as value-type;
 use crate::declarations::Declarations;
 use crate::declarations::Function;
 use crate::declarations::Meaning;
@@ -20,7 +27,8 @@ impl Declarations {
         term: usize,
         wanted: ValueType,
     ) -> Result<usize, TermFault>
-        ensures { λ r. ⌜ made r (λ next. term < next) ⌝ }
+        ensures further { λ r. ⌜ made r (λ next. term < next) ⌝ }
+        ensures checked { λ r. ⌜ Checked (now (text .entry)) (now (self .entry)) (now (terms .entry)) term wanted r ⌝ }
     {
         if term >= terms.len() {
             return Err(TermFault::WrongType { at: 0 });
@@ -60,7 +68,8 @@ impl Declarations {
         count: u8,
         function: Option<Function>,
     ) -> Result<usize, TermFault>
-        ensures { λ r. ⌜ made r (λ next. first ≤ next) ⌝ }
+        ensures further { λ r. ⌜ made r (λ next. first ≤ next) ⌝ }
+        ensures checked { λ r. ⌜ Checked-all (now (text .entry)) (now (self .entry)) (now (terms .entry)) first count function r ⌝ }
     {
         let mut next = first;
         for number in 0..count {
@@ -70,7 +79,9 @@ impl Declarations {
         Ok(next)
     }
 
-    fn wanted(&self, function: Option<Function>, number: u8) -> ValueType {
+    fn wanted(&self, function: Option<Function>, number: u8) -> ValueType
+        ensures { λ r. ⌜ r ≡ getD (wanted-of (vec-items (now (self .entry) .parameters)) function) number value-type.Number ⌝ }
+    {
         let Some(function) = function else {
             return ValueType::Number;
         };
@@ -81,7 +92,9 @@ impl Declarations {
         self.parameters[at]
     }
 
-    fn check_name(&self, text: &[u8], name: Name, wanted: ValueType) -> Result<(), TermFault> {
+    fn check_name(&self, text: &[u8], name: Name, wanted: ValueType) -> Result<(), TermFault>
+        ensures { λ r. ⌜ r ≡ name-fits (name .at) (meaning-of (now (text .entry)) (vec-items (now (self .entry) .names)) (name .part)) wanted ⌝ }
+    {
         let at = name.at;
         match self.meaning(text, name.part) {
             None => Err(TermFault::Undeclared { at }),
@@ -91,7 +104,9 @@ impl Declarations {
     }
 
     // The function of an application.
-    fn applied(&self, text: &[u8], name: Name) -> Result<Function, TermFault> {
+    fn applied(&self, text: &[u8], name: Name) -> Result<Function, TermFault>
+        ensures { λ r. ⌜ Applied (vec-items (now (self .entry) .functions)) name (meaning-of (now (text .entry)) (vec-items (now (self .entry) .names)) (name .part)) r ⌝ }
+    {
         let at = name.at;
         let Some(meaning) = self.meaning(text, name.part) else {
             return Err(TermFault::Undeclared { at });
@@ -107,7 +122,9 @@ impl Declarations {
 }
 
 // A principal may stand where a number is wanted; otherwise types are equal.
-fn fits(at: usize, found: ValueType, wanted: ValueType) -> Result<(), TermFault> {
+fn fits(at: usize, found: ValueType, wanted: ValueType) -> Result<(), TermFault>
+    ensures { λ r. ⌜ r ≡ type-fits at found wanted ⌝ }
+{
     if wanted == ValueType::Principal && found != ValueType::Principal {
         return Err(TermFault::WrongType { at });
     }
