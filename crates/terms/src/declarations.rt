@@ -10,7 +10,6 @@ use crate::fault::TermFault;
 use crate::table::TermTable;
 use std::alloc::Global;
 use syntax::spec::Name;
-use syntax::symbol::FunctionClass;
 use text::part::Part;
 
 #[derive(Clone, Copy, PartialEq, Eq)]
