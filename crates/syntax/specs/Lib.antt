@@ -1,3 +1,9 @@
+pub mod Names
+pub mod Places
 pub mod Refusals
+pub mod Seeing
+pub mod Shape
 pub mod Specs
+pub mod Standing
+pub mod Symbols
 pub mod Tables

@@ -1,121 +1,111 @@
 // The shape of a term.
-ghost use Prim.Native.Nat.{_<_, _≤_};
-ghost use Rattle.std.specs.Of.Vec.{vec-len};
-ghost use Rattle.std.specs.Vec.{made};
+ghost use mathlib.Core.Path.{_≡_};
+ghost use Rattle.std.specs.Of.Vec.{vec-items};
+ghost use Rattle.text.specs.Trees.{Tree, Trees};
+ghost use Rattle.syntax.specs.Shape as shape;
+ghost use Rattle.syntax.specs.Specs as specs;
+ghost use Rattle.syntax.specs.Standing.{Stands, Fill};
+ghost use Rattle.syntax.specs.Seeing as seeing;
 use crate::fault::RefusedShapeFault;
 use crate::fault::ShapeFault;
+use crate::source::Bracket;
+use crate::source::Headed;
 use crate::source::Item;
+use crate::source::MOST_PARTS;
+use crate::source::Parts;
 use crate::source::Source;
 use crate::source::short;
 use crate::spec::Form;
-use crate::spec::Spec;
 use crate::spec::TermNode;
 use crate::symbol::Symbol;
 
-// a tuple has at most so many parts, an application so many arguments
-const MOST_PARTS: usize = 8;
-
 impl Source<'_> {
-    // A term joins the specification's terms, a node before its parts.
-    pub(crate) fn term(self, spec: &mut Spec, node: usize) -> Result<(), ShapeFault> {
-        let form = self.form(node)?;
-        spec.terms
-            .push(TermNode {
-                at: self.place(node),
-                form,
-            })?;
-        let first = node + 1;
-        let second = self.after(first);
-        let end = self.after(node);
-        match form {
-            Form::Name(_) => Ok(()),
-            Form::Tuple { parts: _ } => self.terms(spec, first, end),
-            Form::Apply {
-                function: _,
-                parts: _,
-            } => self.terms(spec, second, end),
-            Form::Crypt => {
-                let third = self.after(second);
-                self.term(spec, first)?;
-                self.term(spec, second)?;
-                self.vanilla(third)
+    // A term joins the others, a node before its parts.
+    pub(crate) fn term(self, terms: &mut Vec<TermNode>, node: usize) -> Result<(), ShapeFault>
+        ensures { λ r. ⌜ ((t : Tree) → Stands (vec-items (now (self .entry .nodes) .rows)) node t → seeing.Answers (shape.term (now (self .entry .text)) t) (λ u. seeing.Grown (vec-items (now (terms .entry))) (specs.nodes u) (vec-items (now (terms .exit)))) r) ⌝ }
+    {
+        match self.item(node)? {
+            Item::Name(name) => {
+                let name = short(name)?;
+                terms.push(TermNode {
+                    at: name.at,
+                    form: Form::Name(name.part),
+                })?;
+                Ok(())
             }
+            Item::Number { at, value: _ } => Err(ShapeFault::Misfit { at }),
+            Item::Bracket(bracket) => match bracket.symbol {
+                Symbol::Tuple => self.tuple(terms, bracket),
+                Symbol::Crypt => self.ciphertext(terms, bracket),
+                Symbol::Apply => self.application(terms, bracket),
+                _ => Err(ShapeFault::Misfit { at: bracket.at }),
+            },
         }
     }
 
-    // The terms from one node to another.
-    fn terms(self, spec: &mut Spec, first: usize, end: usize) -> Result<(), ShapeFault>
-        requires { ⌜ end ≤ vec-len (now (self .nodes) .rows) ⌝ }
+    fn terms(self, terms: &mut Vec<TermNode>, parts: Parts) -> Result<(), ShapeFault>
+        ensures { λ r. ⌜ ((ts : Trees) → Fill (vec-items (now (self .entry .nodes) .rows)) parts ts → seeing.Answers (shape.terms (now (self .entry .text)) ts) (λ us. seeing.Grown (vec-items (now (terms .entry))) (specs.nodes-all us) (vec-items (now (terms .exit)))) r) ⌝ }
     {
-        let mut part = first;
-        while part < end {
-            self.term(spec, part)?;
+        let mut part = parts.first;
+        while part < parts.end {
+            self.term(terms, part)?;
             part = self.after(part);
         }
         Ok(())
     }
 
-    // What a term's node shows: how it is made, with the count of its parts.
-    fn form(self, node: usize) -> Result<Form, ShapeFault>
-        ensures { λ r. ⌜ made r (λ _. node < vec-len (now (self .entry .nodes) .rows)) ⌝ }
+    fn tuple(self, terms: &mut Vec<TermNode>, bracket: Bracket) -> Result<(), ShapeFault>
+        ensures { λ r. ⌜ ((ts : Trees) → Fill (vec-items (now (self .entry .nodes) .rows)) (bracket .parts) ts → seeing.Answers (seeing.tuple-term (now (self .entry .text)) (bracket .at) ts) (λ u. seeing.Grown (vec-items (now (terms .entry))) (specs.nodes u) (vec-items (now (terms .exit)))) r) ⌝ }
     {
-        match self.item(node)? {
-            Item::Name(name) => Ok(Form::Name(short(name)?.part)),
-            Item::Number { at, value: _ } => Err(ShapeFault::Misfit { at }),
-            Item::Bracket { at, symbol } => match symbol {
-                Symbol::Tuple => tuple(at, self.count(node)),
-                Symbol::Crypt => crypt(at, self.count(node)),
-                Symbol::Apply => self.application(node, at),
-                _ => Err(ShapeFault::Misfit { at }),
-            },
+        let count = self.count(bracket.parts);
+        if count > MOST_PARTS {
+            return Err(ShapeFault::Limit { at: bracket.at });
         }
+        terms.push(TermNode {
+            at: bracket.at,
+            form: Form::Tuple { parts: count as u8 },
+        })?;
+        self.terms(terms, bracket.parts)
+    }
+
+    // A text and a key, and the mark behind them.
+    fn ciphertext(self, terms: &mut Vec<TermNode>, bracket: Bracket) -> Result<(), ShapeFault>
+        ensures { λ r. ⌜ ((ts : Trees) → Fill (vec-items (now (self .entry .nodes) .rows)) (bracket .parts) ts → seeing.Answers (shape.crypt-term (now (self .entry .text)) (bracket .at) ts) (λ u. seeing.Grown (vec-items (now (terms .entry))) (specs.nodes u) (vec-items (now (terms .exit)))) r) ⌝ }
+    {
+        self.counted(bracket, 3)?;
+        terms.push(TermNode {
+            at: bracket.at,
+            form: Form::Crypt,
+        })?;
+        let text = bracket.parts.first;
+        let key = self.after(text);
+        self.term(terms, text)?;
+        self.term(terms, key)?;
+        self.vanilla(self.after(key))
+    }
+
+    fn vanilla(self, node: usize) -> Result<(), ShapeFault>
+        ensures { λ r. ⌜ ((t : Tree) → Stands (vec-items (now (self .entry .nodes) .rows)) node t → r ≡ shape.vanilla (now (self .entry .text)) t) ⌝ }
+    {
+        let bracket = self.bracket(node)?;
+        let Symbol::Vanilla = bracket.symbol else {
+            return Err(ShapeFault::Misfit { at: bracket.at });
+        };
+        self.counted(bracket, 0)
     }
 
     // A function's name and the arguments.
-    fn application(self, node: usize, at: usize) -> Result<Form, ShapeFault>
-        requires { ⌜ node < vec-len (now (self .nodes) .rows) ⌝ }
+    fn application(self, terms: &mut Vec<TermNode>, bracket: Bracket) -> Result<(), ShapeFault>
+        ensures { λ r. ⌜ ((ts : Trees) → Fill (vec-items (now (self .entry .nodes) .rows)) (bracket .parts) ts → seeing.Answers (shape.apply-term (now (self .entry .text)) (bracket .at) ts) (λ u. seeing.Grown (vec-items (now (terms .entry))) (specs.nodes u) (vec-items (now (terms .exit)))) r) ⌝ }
     {
-        let count = self.count(node);
-        if count == 0 {
-            return Err(ShapeFault::Misfit { at });
-        }
-        if count > MOST_PARTS + 1 {
-            return Err(ShapeFault::Limit { at });
-        }
-        let function = self.name(node + 1)?;
-        Ok(Form::Apply {
-            function,
-            parts: (count - 1) as u8,
-        })
+        let Headed { name, rest, count } = self.headed(bracket)?;
+        terms.push(TermNode {
+            at: bracket.at,
+            form: Form::Apply {
+                function: name,
+                parts: count,
+            },
+        })?;
+        self.terms(terms, rest)
     }
-
-    // The mark behind a ciphertext's text and key.
-    fn vanilla(self, node: usize) -> Result<(), ShapeFault> {
-        let item = self.item(node)?;
-        if let Item::Bracket {
-            at: _,
-            symbol: Symbol::Vanilla,
-        } = item {
-            if self.count(node) == 0 {
-                return Ok(());
-            }
-        }
-        Err(ShapeFault::Misfit {
-            at: self.place(node),
-        })
-    }
-}
-
-fn tuple(at: usize, count: usize) -> Result<Form, ShapeFault> {
-    if count > MOST_PARTS {
-        return Err(ShapeFault::Limit { at });
-    }
-    Ok(Form::Tuple { parts: count as u8 })
-}
-
-fn crypt(at: usize, count: usize) -> Result<Form, ShapeFault> {
-    if count != 3 {
-        return Err(ShapeFault::Misfit { at });
-    }
-    Ok(Form::Crypt)
 }

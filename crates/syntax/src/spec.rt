@@ -1,4 +1,8 @@
 // A specification as it stands in the tree. Names are parts of the text, with their places.
+ghost use mathlib.Core.Path.{_≡_};
+ghost use mathlib.Core.List.{[]};
+ghost use Rattle.std.specs.Of.Vec.{vec-items};
+ghost use Rattle.syntax.specs.Places.{place-of, label-place};
 use crate::symbol::FunctionClass;
 use std::alloc::Global;
 use text::part::Part;
@@ -75,7 +79,9 @@ pub struct Spec {
 }
 
 impl Spec {
-    pub fn new(heap: Global) -> Spec {
+    pub fn new(heap: Global) -> Spec
+        ensures { λ r. ⌜ (vec-items (r .declarations) ≡ []) × (vec-items (r .parameters) ≡ []) × (vec-items (r .lines) ≡ []) × (vec-items (r .terms) ≡ []) ⌝ }
+    {
         Spec {
             declarations: Vec::new(heap),
             parameters: Vec::new(heap),
@@ -84,8 +90,10 @@ impl Spec {
         }
     }
 
-    // The place of a term.
-    pub fn place(&self, term: usize) -> usize {
+    // The place of a term: 0 for a number that is none's.
+    pub fn place(&self, term: usize) -> usize
+        ensures { λ r. ⌜ r ≡ place-of (vec-items (now (self .entry) .terms)) term ⌝ }
+    {
         if term >= self.terms.len() {
             return 0;
         }
@@ -94,7 +102,9 @@ impl Spec {
 }
 
 impl Label {
-    pub fn place(self) -> usize {
+    pub fn place(self) -> usize
+        ensures { λ r. ⌜ r ≡ label-place self ⌝ }
+    {
         match self {
             Label::Number { at, value: _ } => at,
             Label::Name(name) => name.at,

@@ -1,4 +1,6 @@
 // The symbols of the language.
+ghost use mathlib.Core.Path.{_≡_};
+ghost use Rattle.syntax.specs.Symbols.{symbol, found, entries, one-of, spellings};
 
 // What a function type says of its functions: who may apply them, and whether an application hides its arguments.
 #[derive(Clone, Copy)]
@@ -36,30 +38,11 @@ pub enum Symbol {
     Unknown,
 }
 
-pub fn symbol_of(name: &[u8]) -> Symbol {
-    match name {
-        b"spec" => Symbol::Spec,
-        b"declare" => Symbol::Declare,
-        b"type" => Symbol::Type,
-        b"type-shared" => Symbol::TypeShared,
-        b"knows" => Symbol::Knows,
-        b"everybody-knows" => Symbol::EverybodyKnows,
-        b"block" => Symbol::Block,
-        b"comm" => Symbol::Comm,
-        b"tuple" => Symbol::Tuple,
-        b"crypt" => Symbol::Crypt,
-        b"vanilla" => Symbol::Vanilla,
-        b"apply" => Symbol::Apply,
-        b"sessions" => Symbol::Section(Section::Sessions),
-        b"assume" => Symbol::Section(Section::Assume),
-        b"claim" => Symbol::Section(Section::Claim),
-        _ => other_symbol(name),
-    }
-}
-
-fn other_symbol(name: &[u8]) -> Symbol {
-    if let Some(class) = function_class(name) {
-        return Symbol::FunctionType(class);
+pub fn symbol_of(name: &[u8]) -> Symbol
+    ensures { λ r. ⌜ r ≡ symbol (now (name .entry)) ⌝ }
+{
+    if let Some(symbol) = find(name, &CARRIED) {
+        return symbol;
     }
     if is_one_of(name, &NOT_CARRIED) {
         return Symbol::NotCarried;
@@ -67,16 +50,51 @@ fn other_symbol(name: &[u8]) -> Symbol {
     Symbol::Unknown
 }
 
-fn function_class(name: &[u8]) -> Option<FunctionClass> {
-    let (secret, one_way) = match name {
-        b"function" => (false, false),
-        b"secret-function" => (true, false),
-        b"one-way-function" => (false, true),
-        b"secret-one-way-function" => (true, true),
-        _ => return None,
-    };
-    Some(FunctionClass { secret, one_way })
-}
+const CARRIED: [(&[u8], Symbol); 19] = [
+    (b"spec", Symbol::Spec),
+    (b"declare", Symbol::Declare),
+    (b"type", Symbol::Type),
+    (b"type-shared", Symbol::TypeShared),
+    (b"knows", Symbol::Knows),
+    (b"everybody-knows", Symbol::EverybodyKnows),
+    (b"block", Symbol::Block),
+    (b"comm", Symbol::Comm),
+    (b"tuple", Symbol::Tuple),
+    (b"crypt", Symbol::Crypt),
+    (b"vanilla", Symbol::Vanilla),
+    (b"apply", Symbol::Apply),
+    (b"sessions", Symbol::Section(Section::Sessions)),
+    (b"assume", Symbol::Section(Section::Assume)),
+    (b"claim", Symbol::Section(Section::Claim)),
+    (
+        b"function",
+        Symbol::FunctionType(FunctionClass {
+            secret: false,
+            one_way: false,
+        }),
+    ),
+    (
+        b"secret-function",
+        Symbol::FunctionType(FunctionClass {
+            secret: true,
+            one_way: false,
+        }),
+    ),
+    (
+        b"one-way-function",
+        Symbol::FunctionType(FunctionClass {
+            secret: false,
+            one_way: true,
+        }),
+    ),
+    (
+        b"secret-one-way-function",
+        Symbol::FunctionType(FunctionClass {
+            secret: true,
+            one_way: true,
+        }),
+    ),
+];
 
 const NOT_CARRIED: [&[u8]; 38] = [
     b"keypair",
@@ -119,7 +137,21 @@ const NOT_CARRIED: [&[u8]; 38] = [
     b"line",
 ];
 
-fn is_one_of(name: &[u8], names: &[&[u8]]) -> bool {
+// The symbol of the first entry that has this name.
+fn find(name: &[u8], table: &[(&[u8], Symbol)]) -> Option<Symbol>
+    ensures { λ r. ⌜ r ≡ found (now (name .entry)) (entries (now (table .entry))) ⌝ }
+{
+    for (spelled, symbol) in table {
+        if *spelled == name {
+            return Some(*symbol);
+        }
+    }
+    None
+}
+
+fn is_one_of(name: &[u8], names: &[&[u8]]) -> bool
+    ensures { λ r. ⌜ r ≡ one-of (now (name .entry)) (spellings (now (names .entry))) ⌝ }
+{
     for one in names {
         if *one == name {
             return true;
