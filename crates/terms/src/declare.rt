@@ -19,12 +19,12 @@ use crate::fault::RefusedDeclarationFault;
 use crate::fault::TermDeclarationFault;
 use crate::limits::Limits;
 use crate::limits::MOST_NAMES;
+use std::alloc::Global;
 use syntax::spec::Declaration;
 use syntax::spec::Form;
 use syntax::spec::Name;
 use syntax::spec::Spec;
 use syntax::symbol::FunctionClass;
-use std::alloc::Global;
 
 impl Declarations {
     pub fn read(
