@@ -11,3 +11,7 @@ pub mod Reading
 pub mod ReadingParts
 pub mod Terming
 pub mod Collecting
+pub mod Pushing
+pub mod Declared
+pub mod Kinding
+pub mod Adding

@@ -133,3 +133,15 @@ node-at terms i = getD terms i zero-node
 pub node-is : (terms : List TermNode) (i : ℕ) (f : Form) → i < length terms → node-at terms i .form ≡ f
     → _≡_ {A = TermNode} (record { at = node-at terms i .at; form = f }) (getD terms i (record { at = node-at terms i .at; form = f }))
 node-is terms i f h q = ap (λ z. record { at = node-at terms i .at; form = z }) (sym q) ∙ getD-default terms i zero-node (record { at = node-at terms i .at; form = f }) h
+
+-- what is no name
+pub not-a-name : (P : Term → Type 0) (x : TermNode) (others rest : List TermNode) (t : Term) → x ∷ others ≡ nodes t ++ rest → ((p : Part) → x .form ≡ form.Name p → ⊥)
+    → ((at : ℕ) (ts : Terms) → P (tuple at ts)) → ((at : ℕ) (t k : Term) → P (crypt at t k)) → ((at : ℕ) (f : Name) (ts : Terms) → P (apply at f ts)) → P t
+unfolding nodes
+not-a-name P x others rest (name at p) e other a b c = let h = heads e in absurd (other p (ap (λ (n : TermNode). n .form) (h .0)))
+not-a-name P x others rest (tuple at ts) e other a b c = a at ts
+not-a-name P x others rest (crypt at t k) e other a b c = b at t k
+not-a-name P x others rest (apply at f ts) e other a b c = c at f ts
+
+pub node-read : (terms : List TermNode) (i : ℕ) (x : TermNode) (f : Form) → i < length terms → x ≡ getD terms i x → x .form ≡ f → _≡_ {A = TermNode} (record { at = x .at; form = f }) (getD terms i (record { at = x .at; form = f }))
+node-read terms i x f h q e = ap (λ z. record { at = x .at; form = z }) (sym e) ∙ q ∙ getD-default terms i x (record { at = x .at; form = f }) h

@@ -79,13 +79,13 @@ module _ (t t′ : TermTable) (us : List Tree) (l : Lists t us) (s : Shape) (b :
       let m = l .long in
       let z = t .rows .ok .0 in
       let z′ = t′ .rows .ok .0 in (
-    i .tree,
-    record {
-      terms = us;
-      is = ap (λ c. cond c (Ok us) (cond (leb most (length us)) (Err (Limit at)) (Ok (us ++ (the-tree ∷ []))))) (has-there the-tree us k (omega arith) (l .each k (omega arith) ∙ ap (λ rows. term-tree rows k) (sym e) ∙ i .tree));
-      lists = record { long = omega arith; each = λ j h. l .each j (omega arith) ∙ ap (λ rows. term-tree rows j) (sym e) };
-    },
-  )
+        i .tree,
+        record {
+          terms = us;
+          is = ap (λ c. cond c (Ok us) (cond (leb most (length us)) (Err (Limit at)) (Ok (us ++ (the-tree ∷ []))))) (has-there the-tree us k (omega arith) (l .each k (omega arith) ∙ ap (λ rows. term-tree rows k) (sym e) ∙ i .tree));
+          lists = record { long = omega arith; each = λ j h. l .each j (omega arith) ∙ ap (λ rows. term-tree rows j) (sym e) };
+        },
+      )
 
   noting-new : (k : ℕ) → Numbers (vec-items (t .rows)) (vec-items (t′ .rows)) s k → length (vec-items (t′ .rows)) ≡ length (vec-items (t .rows)) + 1 → k ≡ length (vec-items (t .rows)) → length (vec-items (t .rows)) < most
       → ((j : ℕ) → j < length (vec-items (t .rows)) → shape-of (row-at (vec-items (t .rows)) j) ≡ s → ⊥) → Noting t′ most at the-tree us (Ok k)
@@ -95,14 +95,14 @@ module _ (t t′ : TermTable) (us : List Tree) (l : Lists t us) (s : Shape) (b :
       let z = t .rows .ok .0 in
       let z′ = t′ .rows .ok .0 in
       let p = length-push us the-tree in (
-    i .tree,
-    record {
-      terms = us ++ (the-tree ∷ []);
-      is = ap (λ c. cond c (Ok us) (cond (leb most (length us)) (Err (Limit at)) (Ok (us ++ (the-tree ∷ []))))) (absent f)
-          ∙ ap (λ c. cond c (Err (Limit at)) (Ok (us ++ (the-tree ∷ [])))) (lt-leb most (length us) (omega arith));
-      lists = record { long = omega arith; each = each };
-    },
-  )
+        i .tree,
+        record {
+          terms = us ++ (the-tree ∷ []);
+          is = ap (λ c. cond c (Ok us) (cond (leb most (length us)) (Err (Limit at)) (Ok (us ++ (the-tree ∷ []))))) (absent f)
+              ∙ ap (λ c. cond c (Err (Limit at)) (Ok (us ++ (the-tree ∷ [])))) (lt-leb most (length us) (omega arith));
+          lists = record { long = omega arith; each = each };
+        },
+      )
     where
       each : (j : ℕ) → j < size t′ → getD (us ++ (the-tree ∷ [])) j (leaf 0) ≡ tree-in t′ j
       each j h =

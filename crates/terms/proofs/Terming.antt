@@ -157,11 +157,11 @@ module _ (text : List ℕ) (d d′ : Declarations) (terms : List TermNode) (i mo
       h,
       g,
       λ S m t rest n e.
-      let x = r t rest (S .terms) small (m .terms) (said S m t rest n e) e in
-      record {
-        scope = record { names = S .names; functions = S .functions; starts = S .starts; rights = S .rights; terms = x .noted .terms };
-        is = with-good S m t rest e ∙ ap (with-terms text S) (x .noted .is);
-        means = means-more d d′ S m s g (x .noted .terms) (x .noted .lists);
-        stands-for = x .stands-for ∙ ap (λ ns. tree text ns t) (m .names);
-      },
+          let x = r t rest (S .terms) small (m .terms) (said S m t rest n e) e in
+          record {
+            scope = record { names = S .names; functions = S .functions; starts = S .starts; rights = S .rights; terms = x .noted .terms };
+            is = with-good S m t rest e ∙ ap (with-terms text S) (x .noted .is);
+            means = means-more d d′ S m s g (x .noted .terms) (x .noted .lists);
+            stands-for = x .stands-for ∙ ap (λ ns. tree text ns t) (m .names);
+          },
     )

@@ -14,6 +14,7 @@ use Rattle.model.specs.Trees.{Tree}
 use Rattle.syntax.specs.declared.spec.Name.{Name}
 use Rattle.syntax.specs.Specs as syntax
 use Rattle.syntax.specs.Specs.{Term, name, tuple, crypt, apply}
+use Rattle.terms.specs.declared.declarations.Declared.{Declared}
 use Rattle.terms.specs.declared.declarations.Meaning.{Meaning}
 use Rattle.terms.specs.declared.declarations.Meaning.the-variants.{Value, Function}
 use Rattle.terms.specs.declared.declarations.ValueType.{ValueType}
@@ -77,10 +78,10 @@ module _ (text : List ℕ) where
 
   module _ (limits : Limits) where
     -- the name is new, and there is room for it
-    abbrev pub fresh : Scope → Name → Result (Unit {0}) DeclarationFault
-    fresh S n =
-        cond (isSome (number-of text (S .names) (n .part))) (Err (Redeclared (n .at)))
-        (cond (leb (min (limits .names) 128) (length (S .names))) (Err (Limit (n .at))) (Ok tt))
+    abbrev pub fresh : List Declared → Name → Result (Unit {0}) DeclarationFault
+    fresh names n =
+        cond (isSome (number-of text names (n .part))) (Err (Redeclared (n .at)))
+        (cond (leb (min (limits .names) 128) (length names)) (Err (Limit (n .at))) (Ok tt))
 
     abbrev pub with-name : Name → Meaning → Scope → Scope
     with-name n m S =
@@ -107,9 +108,9 @@ module _ (text : List ℕ) where
         ]
 
     abbrev pub declare : syntax.Declared → Scope → Result Scope DeclarationFault
-    declare (syntax.value n k shared) S = bind (fresh S n) (λ _. bind (kind-of text k) (λ kind. Ok (with-name n (Value kind shared) S)))
+    declare (syntax.value n k shared) S = bind (fresh (S .names) n) (λ _. bind (kind-of text k) (λ kind. Ok (with-name n (Value kind shared) S)))
     declare (syntax.function n class r ps) S =
-        bind (fresh S n) (λ _.
+        bind (fresh (S .names) n) (λ _.
         bind (kind-of text r) (λ result.
         bind (kinds-of text ps) (λ parameters.
         Ok (with-function (record { name = n .part; class = class; result = result; parameters = parameters }) (with-name n (Function (length (S .functions))) S)))))

@@ -14,3 +14,4 @@ pub mod Narrow
 pub mod Reads
 pub mod Termed
 pub mod Starting
+pub mod Declares

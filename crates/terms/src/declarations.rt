@@ -5,11 +5,11 @@ ghost use Prim.Native.Nat.{_≤_};
 ghost use Rattle.std.specs.Of.Vec.{vec-len, vec-items};
 ghost use Rattle.terms.specs.Scope.{number-of, meaning-of, function-of};
 ghost use Rattle.terms.specs.Declaring.{party-number};
-use syntax::symbol::FunctionClass;
 use crate::fault::TermFault;
 use crate::table::TermTable;
 use std::alloc::Global;
 use syntax::spec::Name;
+use syntax::symbol::FunctionClass;
 use text::part::Part;
 
 #[derive(Clone, Copy, PartialEq, Eq)]

@@ -1,8 +1,11 @@
 // Reading the declarations, in their order.
 ghost use mathlib.Core.Path.{_≡_};
-ghost use Prim.Native.Nat.{_+_, _<_};
-ghost use Rattle.std.specs.Of.Vec.{vec-len};
+ghost use Prim.Native.Nat.{_+_, _-_, _<_};
+ghost use lib.ListN.{take, drop};
+ghost use Rattle.std.specs.Of.Vec.{vec-len, vec-items};
 ghost use Rattle.std.specs.Vec.{made};
+ghost use Rattle.terms.specs.Declaring.{fresh, kind-of};
+ghost use Rattle.terms.specs.Declares.{Done, More-names, More-functions, Kinds, Righting, Knowing, Declaring, Declares, declared-name, function-name, function-row};
 use crate::declarations::Declarations;
 use crate::declarations::Declared;
 use crate::declarations::Function;
@@ -16,12 +19,12 @@ use crate::fault::RefusedDeclarationFault;
 use crate::fault::TermDeclarationFault;
 use crate::limits::Limits;
 use crate::limits::MOST_NAMES;
+use std::alloc::Global;
 use syntax::spec::Declaration;
 use syntax::spec::Form;
 use syntax::spec::Name;
 use syntax::spec::Spec;
 use syntax::symbol::FunctionClass;
-use std::alloc::Global;
 
 impl Declarations {
     pub fn read(
@@ -29,7 +32,9 @@ impl Declarations {
         text: &[u8],
         spec: &Spec,
         limits: Limits,
-    ) -> Result<Declarations, DeclarationFault> {
+    ) -> Result<Declarations, DeclarationFault>
+        ensures { λ r. ⌜ Declares (now (text .entry)) limits (now (spec .entry)) r ⌝ }
+    {
         let mut declarations = Declarations::new(heap);
         for declaration in spec.declarations.as_slice() {
             declarations.add(text, spec, *declaration, limits)?;
@@ -43,7 +48,9 @@ impl Declarations {
         spec: &Spec,
         declaration: Declaration,
         limits: Limits,
-    ) -> Result<(), DeclarationFault> {
+    ) -> Result<(), DeclarationFault>
+        ensures { λ r. ⌜ Declaring (now (text .entry)) limits (now (self .entry)) (now (self .exit)) (now (spec .entry)) declaration r ⌝ }
+    {
         match declaration {
             Declaration::Value { name, kind, shared } => {
                 self.unused(text, name, limits)?;
@@ -73,7 +80,8 @@ impl Declarations {
 
     // A name is declared once.
     fn unused(&self, text: &[u8], name: Name, limits: Limits) -> Result<(), DeclarationFault>
-        ensures { λ r. ⌜ made r (λ _. vec-len (now (self .entry) .names) < 128) ⌝ }
+        ensures room { λ r. ⌜ made r (λ _. vec-len (now (self .entry) .names) < 128) ⌝ }
+        ensures unused { λ r. ⌜ r ≡ fresh (now (text .entry)) limits (vec-items (now (self .entry) .names)) name ⌝ }
     {
         let at = name.at;
         if self.find(text, name.part).is_some() {
@@ -89,6 +97,7 @@ impl Declarations {
         requires { ⌜ vec-len (now self .names) < 128 ⌝ }
         ensures longer { λ r. ⌜ made r (λ _. vec-len (now (self .exit) .names) ≡ vec-len (now (self .entry) .names) + 1) ⌝ }
         ensures same { λ _. ⌜ now (self .exit) .functions ≡ now (self .entry) .functions ⌝ }
+        ensures added { λ r. ⌜ Done (More-names (now (self .entry)) (now (self .exit)) (declared-name name meaning)) r ⌝ }
     {
         self.names
             .push(Declared {
@@ -107,6 +116,7 @@ impl Declarations {
         first: usize,
     ) -> Result<(), DeclarationFault>
         requires { ⌜ vec-len (now self .names) < 128 ⌝ }
+        ensures { λ r. ⌜ Done (More-functions (now (self .entry)) (now (self .exit)) (function-name name (vec-len (now (self .entry) .functions))) (function-row name class result first (vec-len (now (self .entry) .parameters)))) r ⌝ }
     {
         let number = self.functions.len() as u8;
         self.name(name, Meaning::Function(number))?;
@@ -129,7 +139,9 @@ impl Declarations {
         knower: Option<u8>,
         term: usize,
         limits: Limits,
-    ) -> Result<(), DeclarationFault> {
+    ) -> Result<(), DeclarationFault>
+        ensures { λ r. ⌜ Knowing (now (text .entry)) limits (now (self .entry)) (now (self .exit)) (vec-items (now (spec .entry) .terms)) knower term r ⌝ }
+    {
         if let Some(function) = self.right(text, spec, term) {
             self.rights.push(Right { knower, function })?;
             return Ok(());
@@ -139,7 +151,9 @@ impl Declarations {
         Ok(())
     }
 
-    fn right(&self, text: &[u8], spec: &Spec, term: usize) -> Option<u8> {
+    fn right(&self, text: &[u8], spec: &Spec, term: usize) -> Option<u8>
+        ensures { λ r. ⌜ Righting (now (text .entry)) (now (self .entry)) (vec-items (now (spec .entry) .terms)) term r ⌝ }
+    {
         if term >= spec.terms.len() {
             return None;
         }
@@ -151,12 +165,17 @@ impl Declarations {
 }
 
 // There are two types, by their names.
-fn type_of(text: &[u8], name: Name) -> Result<ValueType, DeclarationFault> {
-    match name.part.of(text) {
-        b"number" => Ok(ValueType::Number),
-        b"principal" => Ok(ValueType::Principal),
-        _ => Err(DeclarationFault::WrongType { at: name.at }),
+fn type_of(text: &[u8], name: Name) -> Result<ValueType, DeclarationFault>
+    ensures { λ r. ⌜ r ≡ kind-of (now (text .entry)) name ⌝ }
+{
+    let kind = name.part.of(text);
+    if kind == b"number" {
+        return Ok(ValueType::Number);
     }
+    if kind == b"principal" {
+        return Ok(ValueType::Principal);
+    }
+    Err(DeclarationFault::WrongType { at: name.at })
 }
 
 // The types of a function's parameters.
@@ -166,7 +185,9 @@ fn read_parameters(
     first: usize,
     end: usize,
     parameters: &mut Vec<ValueType>,
-) -> Result<(), DeclarationFault> {
+) -> Result<(), DeclarationFault>
+    ensures { λ r. ⌜ Kinds (now (text .entry)) (take (end - first) (drop first (vec-items (now (spec .entry) .parameters)))) (vec-items (now (parameters .entry))) (vec-items (now (parameters .exit))) r ⌝ }
+{
     for number in first..end {
         if number < spec.parameters.len() {
             let kind = type_of(text, spec.parameters[number])?;

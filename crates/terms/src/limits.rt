@@ -15,9 +15,13 @@ pub struct Limits {
 }
 
 pub const MOST_NAMES: usize = 128;
+
 pub const MOST_TERMS: usize = 512;
+
 pub const MOST_ROLES: usize = 8;
+
 pub const MOST_REGISTERS: usize = 512;
+
 pub const MOST_ACTIONS: usize = 4096;
 
 impl Limits {

@@ -14,11 +14,11 @@ use crate::declarations::ValueType;
 use crate::fault::TermFault;
 use crate::limits::Limits;
 use crate::limits::MOST_TERMS;
+use program::kind::Kind;
+use program::parts::Parts;
 use syntax::spec::Form;
 use syntax::spec::Spec;
 use syntax::spec::TermNode;
-use program::kind::Kind;
-use program::parts::Parts;
 
 impl Declarations {
     // The number of a term, whose types are checked first.
@@ -71,7 +71,8 @@ impl Declarations {
             }
             Form::Tuple { parts } => {
                 let (parts, end) = self.numbers(text, terms, next, parts, most)?;
-                let number = self.terms.compound(Kind::Tuple, parts.as_slice(), most, at)?;
+                let number = self.terms
+                    .compound(Kind::Tuple, parts.as_slice(), most, at)?;
                 Ok((number, end))
             }
             Form::Apply { function, parts } => {

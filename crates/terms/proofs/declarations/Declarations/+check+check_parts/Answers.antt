@@ -87,6 +87,6 @@ pub check-parts-loop-number-again : need.check-parts-loop-number-again
 check-parts-loop-number-again t c =
     let a = c .loop-number .inv .0 in
     let b = c .in-Continue-next .ensures tt .further in (
-  omega arith,
-  going-on (c .args .text .now) (c .args .self .now) (c .args .terms .now) (c .args .first) (c .args .count) (c .args .function) (c .loop-number .number) (c .loop-number .next) (c .loop-number .inv .1) (c .wanted-wanted .result) (c .loop-number-test .taken) (c .wanted-wanted .ensures) (c .in-Continue-next .next) (c .in-Continue-next .ensures tt .checked),
-)
+      omega arith,
+      going-on (c .args .text .now) (c .args .self .now) (c .args .terms .now) (c .args .first) (c .args .count) (c .args .function) (c .loop-number .number) (c .loop-number .next) (c .loop-number .inv .1) (c .wanted-wanted .result) (c .loop-number-test .taken) (c .wanted-wanted .ensures) (c .in-Continue-next .next) (c .in-Continue-next .ensures tt .checked),
+    )

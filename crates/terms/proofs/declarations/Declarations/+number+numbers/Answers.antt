@@ -137,14 +137,14 @@ numbers-loop-holds t c = (
 pub numbers-loop-again : need.numbers-loop-again
 numbers-loop-again t c =
     let n = c .in-Continue-part .ensures tt .within in (
-  (
-    below-more-parts (size (c .loop .self .terms)) (size (c .number .last .self .terms)) (parts-of (c .loop .parts)) (parts-of (c .push .last .self)) (c .in-Continue-part .part) (n .2 .longer) (c .loop .inv .0 .0) (n .0) (c .push .ensures),
-    omega (arith, n .1, c .loop .inv .0 .1),
-    grows-on (c .args .self .now .terms) (c .loop .self .terms) (c .number .last .self .terms) (c .loop .inv .0 .2) (n .2),
-  ),
-  (same-on (c .args .self .now) (c .loop .self) (c .number .last .self) (c .loop .inv .1) (c .number .ensures .same)),
-  onward-more (c .args .text .now) (vec-items (c .args .self .now .names)) (c .args .terms .now) (c .args .most) (c .args .first) (c .args .count) (c .args .self .now .terms) (c .loop .self .terms) (parts-of (c .loop .parts)) (c .loop .counter) (c .loop .next) (c .loop .inv .2) (c .number .last .self .terms) (c .loop-test .taken) (c .loop .inv .0 .0) (n .2) (c .in-Continue-part .part) (c .in-Continue-part .end) (subst (λ ns. Reads (c .args .text .now) (vec-items ns) (c .loop .self .terms) (c .number .last .self .terms) (c .args .terms .now) (c .args .most) (c .loop .next) (Ok (c .in-Continue-part .part, c .in-Continue-part .end))) ((c .loop .inv .1) .names) (c .in-Continue-part .ensures tt .reads)) (parts-of (c .push .last .self)) (c .push .ensures),
-)
+      (
+        below-more-parts (size (c .loop .self .terms)) (size (c .number .last .self .terms)) (parts-of (c .loop .parts)) (parts-of (c .push .last .self)) (c .in-Continue-part .part) (n .2 .longer) (c .loop .inv .0 .0) (n .0) (c .push .ensures),
+        omega (arith, n .1, c .loop .inv .0 .1),
+        grows-on (c .args .self .now .terms) (c .loop .self .terms) (c .number .last .self .terms) (c .loop .inv .0 .2) (n .2),
+      ),
+      (same-on (c .args .self .now) (c .loop .self) (c .number .last .self) (c .loop .inv .1) (c .number .ensures .same)),
+      onward-more (c .args .text .now) (vec-items (c .args .self .now .names)) (c .args .terms .now) (c .args .most) (c .args .first) (c .args .count) (c .args .self .now .terms) (c .loop .self .terms) (parts-of (c .loop .parts)) (c .loop .counter) (c .loop .next) (c .loop .inv .2) (c .number .last .self .terms) (c .loop-test .taken) (c .loop .inv .0 .0) (n .2) (c .in-Continue-part .part) (c .in-Continue-part .end) (subst (λ ns. Reads (c .args .text .now) (vec-items ns) (c .loop .self .terms) (c .number .last .self .terms) (c .args .terms .now) (c .args .most) (c .loop .next) (Ok (c .in-Continue-part .part, c .in-Continue-part .end))) ((c .loop .inv .1) .names) (c .in-Continue-part .ensures tt .reads)) (parts-of (c .push .last .self)) (c .push .ensures),
+    )
 
 pub numbers-returns : need.numbers-returns
 numbers-returns t c = record {

@@ -24,9 +24,10 @@ loop-start-again c =
       | then-starts-from·in-Continue-push w ↦
           let q = sym (c .starts-from .ensures) ∙ w .if-starts-from .taken in
           subst⁻¹ (λ v. All-below (size (c .args .self .now .terms)) (vec-items v) × ((vec-items v) ++ starting (c .args .name) (size (c .args .self .now .terms)) (drop (c .loop-start .start-index + 1) (c .as-slice-start-items .result .now)) ≡ starting (c .args .name) (size (c .args .self .now .terms)) (c .as-slice-start-items .result .now))) (w .terms-is)
-          (subst⁻¹ (λ xs. All-below (size (c .args .self .now .terms)) xs × (xs ++ starting (c .args .name) (size (c .args .self .now .terms)) (drop (c .loop-start .start-index + 1) (c .as-slice-start-items .result .now)) ≡ starting (c .args .name) (size (c .args .self .now .terms)) (c .as-slice-start-items .result .now))) (w .in-Continue-push .ensures tt .items)
-          (below-push (size (c .args .self .now .terms)) (vec-items (c .loop-start .terms)) _ (c .loop-start .inv .0) (ltb-true _ _ (and-parts _ _ q .1)),
-          gather-more (starting (c .args .name) (size (c .args .self .now .terms))) (starts-test (c .args .name) (size (c .args .self .now .terms))) (λ s. s .term) (λ s ss. refl) (c .as-slice-start-items .result .now) (c .loop-start .start-index) (vec-items (c .loop-start .terms)) (starting (c .args .name) (size (c .args .self .now .terms)) (c .as-slice-start-items .result .now)) (c .loop-start .inv .1) _ _ (c .loop-start-test .taken) q refl))
+          (subst⁻¹ (λ xs. All-below (size (c .args .self .now .terms)) xs × (xs ++ starting (c .args .name) (size (c .args .self .now .terms)) (drop (c .loop-start .start-index + 1) (c .as-slice-start-items .result .now)) ≡ starting (c .args .name) (size (c .args .self .now .terms)) (c .as-slice-start-items .result .now))) (w .in-Continue-push .ensures tt .items) (
+            below-push (size (c .args .self .now .terms)) (vec-items (c .loop-start .terms)) _ (c .loop-start .inv .0) (ltb-true _ _ (and-parts _ _ q .1)),
+            gather-more (starting (c .args .name) (size (c .args .self .now .terms))) (starts-test (c .args .name) (size (c .args .self .now .terms))) (λ s. s .term) (λ s ss. refl) (c .as-slice-start-items .result .now) (c .loop-start .start-index) (vec-items (c .loop-start .terms)) (starting (c .args .name) (size (c .args .self .now .terms)) (c .as-slice-start-items .result .now)) (c .loop-start .inv .1) _ _ (c .loop-start-test .taken) q refl,
+          ))
       | else-starts-from w ↦
           subst⁻¹ (λ v. All-below (size (c .args .self .now .terms)) (vec-items v) × ((vec-items v) ++ starting (c .args .name) (size (c .args .self .now .terms)) (drop (c .loop-start .start-index + 1) (c .as-slice-start-items .result .now)) ≡ starting (c .args .name) (size (c .args .self .now .terms)) (c .as-slice-start-items .result .now))) (w .terms-is)
           (c .loop-start .inv .0, gather-not (starting (c .args .name) (size (c .args .self .now .terms))) (starts-test (c .args .name) (size (c .args .self .now .terms))) (λ s. s .term) (λ s ss. refl) (c .as-slice-start-items .result .now) (c .loop-start .start-index) (vec-items (c .loop-start .terms)) (starting (c .args .name) (size (c .args .self .now .terms)) (c .as-slice-start-items .result .now)) (c .loop-start .inv .1) _ (c .loop-start-test .taken) (sym (c .starts-from .ensures) ∙ w .if-starts-from .left))

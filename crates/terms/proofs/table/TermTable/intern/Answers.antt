@@ -16,7 +16,7 @@ find-row-requires c κs = omega (arith, c .args .self .now .numbered)
 pub returns-in-Some : need.returns-in-Some
 returns-in-Some c = (
   already (vec-items (c .args .self .now .rows)) (c .args .row) (c .in-Some .term) (c .args .self .now .ordered) (c .args .self .now .whole)
-    (subst (λ rows. At rows (c .args .row) (c .in-Some .term)) (c .as-slice .ensures .value) (c .in-Some .ensures tt)),
+      (subst (λ rows. At rows (c .args .row) (c .in-Some .term)) (c .as-slice .ensures .value) (c .in-Some .ensures tt)),
   inl refl,
 )
 
@@ -35,8 +35,8 @@ returns c =
     let l = length-push (vec-items (c .args .self .now .rows)) (c .args .row) in
     let q = ap length e in
     let k = c .len-term .ensures in (
-  subst⁻¹ (λ rows. Numbers (vec-items (c .args .self .now .rows)) rows (shape-of (c .args .row)) (c .len-term .result)) e
-      (subst⁻¹ (Numbers (vec-items (c .args .self .now .rows)) (vec-items (c .args .self .now .rows) ++ c .args .row ∷ []) (shape-of (c .args .row))) (k ∙ n)
-      (pushed (vec-items (c .args .self .now .rows)) (c .args .row) (c .args .self .now .ordered) (c .args .self .now .whole) (subst (λ n. Fits n (c .args .row)) n (c .pre)))),
-  inr (omega arith, omega arith, omega arith, subst (λ rows. Absent rows (c .args .row)) (c .as-slice .ensures .value) (c .in-rest .ensures tt)),
-)
+      subst⁻¹ (λ rows. Numbers (vec-items (c .args .self .now .rows)) rows (shape-of (c .args .row)) (c .len-term .result)) e
+          (subst⁻¹ (Numbers (vec-items (c .args .self .now .rows)) (vec-items (c .args .self .now .rows) ++ c .args .row ∷ []) (shape-of (c .args .row))) (k ∙ n)
+          (pushed (vec-items (c .args .self .now .rows)) (c .args .row) (c .args .self .now .ordered) (c .args .self .now .whole) (subst (λ n. Fits n (c .args .row)) n (c .pre)))),
+      inr (omega arith, omega arith, omega arith, subst (λ rows. Absent rows (c .args .row)) (c .as-slice .ensures .value) (c .in-rest .ensures tt)),
+    )
