@@ -1,5 +1,4 @@
 pub mod Numbered
-pub mod Scans
 pub mod Tables
 pub mod Interning
 pub mod Growing
