@@ -72,3 +72,5 @@ pub mod WorkedExamples
 pub mod OrderExamples
 pub mod Narration
 pub mod NewNames
+-- for the code above: loops that go through a list
+pub mod Scans

@@ -1,5 +1,4 @@
 pub mod Lists
-pub mod Scans
 pub mod Shortened
 pub mod Printing
 pub mod Rows

@@ -10,7 +10,6 @@ pub mod Lining
 pub mod Naming
 pub mod Nodes
 pub mod Placed
-pub mod Scans
 pub mod Shaping
 pub mod Spelled
 pub mod Terming

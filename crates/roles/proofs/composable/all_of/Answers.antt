@@ -1,7 +1,7 @@
 use mathlib.Core.Path.{sym, ap, _∙_}
 use mathlib.Core.Bool.{false, not}
 use lib.ListN.{getD}
-use Rattle.program.proofs.Scans.{scan-hit, scan-pass, scan-end}
+use Rattle.model.proofs.Scans.{scan-hit, scan-pass, scan-end}
 use Rattle.roles.specs.Composed.{all-in}
 use Rattle.roles.proofs.Marks.{all-step}
 use Rattle.roles.proofs.composable.all_of.Needs as need

@@ -6,7 +6,7 @@ use Rattle.std.proofs.shelf.Equals.{matches-decides}
 use Rattle.std.specs.shelf.Text.{sameBytes}
 use Rattle.std.specs.declared.option.Option.the-variants.{Some}
 use Rattle.syntax.specs.Symbols.{found, entries}
-use Rattle.syntax.proofs.Scans.{scan-hit, scan-pass, scan-end}
+use Rattle.model.proofs.Scans.{scan-hit, scan-pass, scan-end}
 use Rattle.syntax.proofs.Spelled.{decided, found-step, found-none}
 use Rattle.syntax.proofs.symbol.find.Needs as need
 

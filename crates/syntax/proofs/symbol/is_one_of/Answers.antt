@@ -6,7 +6,7 @@ use lib.ListN.{getD}
 use Rattle.std.proofs.shelf.Equals.{matches-decides}
 use Rattle.std.specs.shelf.Text.{sameBytes}
 use Rattle.syntax.specs.Symbols.{one-of, spellings}
-use Rattle.syntax.proofs.Scans.{scan-hit, scan-pass, scan-end}
+use Rattle.model.proofs.Scans.{scan-hit, scan-pass, scan-end}
 use Rattle.syntax.proofs.Spelled.{decided, one-step, one-none}
 use Rattle.syntax.proofs.symbol.is_one_of.Needs as need
 

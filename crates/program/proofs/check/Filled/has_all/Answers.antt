@@ -4,7 +4,7 @@ use lib.ListN.{getD}
 use Rattle.std.specs.Of.Vec.{vec-items}
 use Rattle.program.specs.Checked.{marked-all}
 use Rattle.program.proofs.Filling.{marked-step}
-use Rattle.program.proofs.Scans.{scan-hit, scan-pass, scan-end}
+use Rattle.model.proofs.Scans.{scan-hit, scan-pass, scan-end}
 use Rattle.program.proofs.check.Filled.has_all.Needs as need
 
 pub loop-register-again : need.loop-register-again

@@ -3,7 +3,7 @@ use mathlib.Core.Bool.{true, _&&_}
 use lib.Dec.{eqb}
 use Rattle.std.proofs.shelf.Tests.{eq-eqb, ne-eqb, and-from, and-left, and-right}
 use Rattle.terms.specs.Starting.{is-for, has-right}
-use Rattle.program.proofs.Scans.{scan-hit, scan-pass, scan-end}
+use Rattle.model.proofs.Scans.{scan-hit, scan-pass, scan-end}
 use Rattle.terms.proofs.Collecting.{or-cond}
 use Rattle.terms.proofs.declarations.Declarations.has_right.Needs as need
 use Rattle.terms.proofs.declarations.Declarations.has_right.Needs.{else-right-function·by·then-right-function·else-is-for, else-right-function·by·else-right-function}
