@@ -146,9 +146,9 @@ module _ (marks marks′ : List Bool) (r q : ℕ) (long : length marks′ ≡ 65
   fill-more l b g e = (
     length-set marks′ q true ∙ long,
     (let s : suc (q - r) ≡ q + 1 - r = omega arith in
-    subst (λ n. Filled-upto marks (set marks′ q true) r n) s
-    (subst (λ x. Filled-upto marks (set marks′ x true) r (suc (q - r))) here
-    (filled-more marks marks′ r (q - r) long f (omega arith) (ap (λ x. getD marks′ x false) here ∙ sym (getD-read marks′ q b (omega arith) g false) ∙ e)))),
+        subst (λ n. Filled-upto marks (set marks′ q true) r n) s
+        (subst (λ x. Filled-upto marks (set marks′ x true) r (suc (q - r))) here
+        (filled-more marks marks′ r (q - r) long f (omega arith) (ap (λ x. getD marks′ x false) here ∙ sym (getD-read marks′ q b (omega arith) g false) ∙ e)))),
   )
 
   pub fill-stops : (n : ℕ) → q < r + n → q < 65791 → (b : Bool) → b ≡ getD marks′ q b → b ≡ true → (done : List ℕ) → Marks marks done → has-none (from r n) done ≡ false

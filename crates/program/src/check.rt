@@ -60,12 +60,33 @@ impl Filled {
             Action::Hear { target: _ } => true,
             Action::Say { source } => self.has_all(&[source]),
             Action::Same { left, right } => self.has_all(&[left, right]),
-            Action::Crypt { target: _, text, key } => self.has_all(&[text, key]),
+            Action::Crypt {
+                target: _,
+                text,
+                key,
+            } => self.has_all(&[text, key]),
             Action::Tuple { target: _, parts } => self.has_all(parts.as_slice()),
-            Action::Apply { target: _, function: _, parts } => self.has_all(parts.as_slice()),
-            Action::OpenCrypt { target: _, source, key } => self.has_all(&[source, key]),
-            Action::OpenTuple { first: _, count: _, source } => self.has_all(&[source]),
-            Action::OpenApply { first: _, count: _, source, function: _ } => self.has_all(&[source]),
+            Action::Apply {
+                target: _,
+                function: _,
+                parts,
+            } => self.has_all(parts.as_slice()),
+            Action::OpenCrypt {
+                target: _,
+                source,
+                key,
+            } => self.has_all(&[source, key]),
+            Action::OpenTuple {
+                first: _,
+                count: _,
+                source,
+            } => self.has_all(&[source]),
+            Action::OpenApply {
+                first: _,
+                count: _,
+                source,
+                function: _,
+            } => self.has_all(&[source]),
         }
     }
 
@@ -120,12 +141,33 @@ impl Action {
             Action::Hear { target } => one(target),
             Action::Say { source: _ } => Span { first: 0, count: 0 },
             Action::Same { left: _, right: _ } => Span { first: 0, count: 0 },
-            Action::Crypt { target, text: _, key: _ } => one(target),
+            Action::Crypt {
+                target,
+                text: _,
+                key: _,
+            } => one(target),
             Action::Tuple { target, parts: _ } => one(target),
-            Action::Apply { target, function: _, parts: _ } => one(target),
-            Action::OpenCrypt { target, source: _, key: _ } => one(target),
-            Action::OpenTuple { first, count, source: _ } => Span { first, count },
-            Action::OpenApply { first, count, source: _, function: _ } => Span { first, count },
+            Action::Apply {
+                target,
+                function: _,
+                parts: _,
+            } => one(target),
+            Action::OpenCrypt {
+                target,
+                source: _,
+                key: _,
+            } => one(target),
+            Action::OpenTuple {
+                first,
+                count,
+                source: _,
+            } => Span { first, count },
+            Action::OpenApply {
+                first,
+                count,
+                source: _,
+                function: _,
+            } => Span { first, count },
         }
     }
 
@@ -134,12 +176,17 @@ impl Action {
         ensures { λ r. ⌜ r ≡ counted (now (counts .entry)) self ⌝ }
     {
         match self {
-            Action::Apply { target: _, function, parts } => {
-                declared_count(counts, function, parts.as_slice().len())
-            }
-            Action::OpenApply { first: _, count, source: _, function } => {
-                declared_count(counts, function, count as usize)
-            }
+            Action::Apply {
+                target: _,
+                function,
+                parts,
+            } => { declared_count(counts, function, parts.as_slice().len()) }
+            Action::OpenApply {
+                first: _,
+                count,
+                source: _,
+                function,
+            } => { declared_count(counts, function, count as usize) }
             _ => true,
         }
     }

@@ -72,10 +72,14 @@ impl TermTable {
         requires { ⌜ All-below (vec-len (now self .rows)) (now parts) ⌝ ∗ ⌜ length (now parts) ≤ 8 ⌝ ∗ ⌜ two-parts (formed (head-of kind) (now parts)) ≡ 2 ⌝ }
         ensures { λ r. ⌜ Interned (vec-items (now (self .entry) .rows)) (vec-items (now (self .exit) .rows)) (formed (head-of kind) (now (parts .entry))) most at r ⌝ }
     {
-        self.intern(TermRow::Compound {
-            kind,
-            parts: Parts::from_slice(parts),
-        }, most, at)
+        self.intern(
+            TermRow::Compound {
+                kind,
+                parts: Parts::from_slice(parts),
+            },
+            most,
+            at,
+        )
     }
 
     // The number of a row, which is added if it is not there.
