@@ -5,7 +5,8 @@ ghost use mathlib.Core.List.{map};
 ghost use lib.Dec.{ltb};
 ghost use lib.ListN.{drop};
 ghost use Rattle.std.specs.Of.Vec.{vec-items};
-ghost use Rattle.std.specs.Vec.{made};
+ghost use Rattle.std.specs.Vec.{made, refused};
+ghost use Rattle.terms.specs.declared.fault.TermFault.the-variants.{NoMemory};
 ghost use Rattle.terms.specs.Shapes.{All-below};
 ghost use Rattle.terms.specs.Terms.{size, tree-in};
 ghost use Rattle.terms.specs.Scope.{Scope};
@@ -26,6 +27,7 @@ impl Declarations {
     pub fn starting_terms(&self, heap: Global, name: u8) -> Result<Vec<u16>, TermFault>
         ensures below { λ r. ⌜ made r (λ v. All-below (size (now (self .entry) .terms)) (vec-items v)) ⌝ }
         ensures given { λ r. ⌜ made r (λ v. (S : Scope) → Means (now (self .entry)) S → map (tree-in (now (self .entry) .terms)) (vec-items v) ≡ given-to name (S .starts)) ⌝ }
+        ensures refused { λ r. ⌜ refused r (λ e. e ≡ NoMemory) ⌝ }
     {
         let mut terms = Vec::new(heap);
         for start in self.starts.as_slice() {
@@ -43,11 +45,11 @@ impl Declarations {
     }
 
     // Whether a party of this name may apply a function though it is secret.
-    pub fn has_right(&self, name: u8, function: u8) -> bool
+    pub fn has_right(&self, name: u8, function: usize) -> bool
         ensures { λ r. ⌜ r ≡ has-right name function (vec-items (now (self .entry) .rights)) ⌝ }
     {
         for right in self.rights.as_slice() {
-            if right.function == function && is_for(right.knower, name) {
+            if right.function as usize == function && is_for(right.knower, name) {
                 return true;
             }
         }
@@ -56,7 +58,8 @@ impl Declarations {
 
     // The names that were numbered as terms from `before` on and may be made: no shared ones, and no principals.
     pub fn made_since(&self, heap: Global, before: usize) -> Result<Vec<u8>, TermFault>
-        ensures { λ r. ⌜ made r (λ v. (S : Scope) → Means (now (self .entry)) S → vec-items v ≡ made-among (S .names) (drop before (S .terms))) ⌝ }
+        ensures made { λ r. ⌜ made r (λ v. (S : Scope) → Means (now (self .entry)) S → vec-items v ≡ made-among (S .names) (drop before (S .terms))) ⌝ }
+        ensures refused { λ r. ⌜ refused r (λ e. e ≡ NoMemory) ⌝ }
     {
         let mut made = Vec::new(heap);
         for term in before..self.terms.len() {

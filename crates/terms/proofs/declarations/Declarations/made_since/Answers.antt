@@ -30,6 +30,9 @@ loop-term-again c =
     ]
 
 pub returns : need.returns
-returns c = λ S m.
-    gather-end (made-rows (vec-items (c .args .self .now .names))) (vec-items (c .args .self .now .terms .rows)) (c .loop-term .term) (vec-items (c .loop-term .made)) (made-rows (vec-items (c .args .self .now .names)) (drop (c .args .before) (vec-items (c .args .self .now .terms .rows)))) refl (c .loop-term .inv) (search needs)
-    ∙ made-same (c .args .self .now .terms) (S .terms) (m .terms) (vec-items (c .args .self .now .names)) (c .args .before) ∙ ap (λ ns. made-among ns (drop (c .args .before) (S .terms))) (m .names)
+returns c = record {
+  made = λ S m.
+      gather-end (made-rows (vec-items (c .args .self .now .names))) (vec-items (c .args .self .now .terms .rows)) (c .loop-term .term) (vec-items (c .loop-term .made)) (made-rows (vec-items (c .args .self .now .names)) (drop (c .args .before) (vec-items (c .args .self .now .terms .rows)))) refl (c .loop-term .inv) (search needs)
+      ∙ made-same (c .args .self .now .terms) (S .terms) (m .terms) (vec-items (c .args .self .now .names)) (c .args .before) ∙ ap (λ ns. made-among ns (drop (c .args .before) (S .terms))) (m .names);
+  refused = tt;
+}

@@ -40,4 +40,5 @@ returns c = record {
       ap (map (tree-in (c .args .self .now .terms))) (gather-end (starting (c .args .name) (size (c .args .self .now .terms))) (c .as-slice-start-items .result .now) (c .loop-start .start-index) (vec-items (c .loop-start .terms)) (starting (c .args .name) (size (c .args .self .now .terms)) (c .as-slice-start-items .result .now)) refl (c .loop-start .inv .1) (c .loop-start-test .left)
       ∙ ap (starting (c .args .name) (size (c .args .self .now .terms))) (c .as-slice-start-items .ensures .value))
       ∙ starting-given (c .args .name) (c .args .self .now .terms) (vec-items (c .args .self .now .starts)) (m .started) ∙ ap (given-to (c .args .name)) (m .starts);
+  refused = tt;
 }
