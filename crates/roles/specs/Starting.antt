@@ -18,7 +18,6 @@ use Rattle.roles.specs.declared.line_fault.LineFault.the-variants.{Limit, Unde
 use Rattle.roles.specs.declared.party.Function.{Function}
 use Rattle.roles.specs.declared.role.Role.{Role}
 use Rattle.roles.specs.Parties.{party-of}
-use Rattle.roles.specs.Roles.{Fit}
 use Rattle.roles.specs.Playing.{Player, ended}
 use Rattle.roles.specs.Players.{player-of}
 
@@ -29,3 +28,23 @@ functions-from n rights f (s ∷ ss) = record { secret = s .class .secret; «one
 
 abbrev pub party-in : Scope → ℕ → deduction.Party
 party-in S n = party-of (functions-from n (S .rights) 0 (S .functions))
+
+-- a role that was given nothing
+abbrev pub nobody : model.Role
+nobody = record { known = []; next = 0; acts = [] }
+
+-- a role at its start: what its party starts from is given and settled; a limit is passed at its name
+abbrev pub started : Limits → Scope → ℕ → Name → Result Player LineFault
+started limits S n name =
+    ended limits 0 (name .at) (record { name = n; part = name .part; party = party-in S n; role = nobody; rows = [] })
+    (start (party-in S n) (given-to n (S .starts)))
+
+-- it starts as the definition says, want of memory aside
+abbrev pub Starts-as : TermTable → Result Player LineFault → Result Role LineFault → Type 0
+Starts-as t o (Ok r) = o ≡ Ok (player-of t r)
+Starts-as t o (Err (Limit p)) = o ≡ Err (Limit p)
+Starts-as t o (Err (Undeclared p)) = ⊥
+Starts-as t o (Err (WrongType p)) = ⊥
+Starts-as t o (Err (Repeated p)) = ⊥
+Starts-as t o (Err (Underivable p n k)) = o ≡ Err (Underivable p n k)
+Starts-as t o (Err NoMemory) = Unit {0}

@@ -5,9 +5,11 @@ ghost use Rattle.std.specs.Vec.{made};
 ghost use mathlib.Core.List.{List};
 ghost use Rattle.model.specs.Trees.{Tree};
 ghost use Rattle.terms.specs.Terms.{size, tree-in};
-ghost use Rattle.terms.specs.Meanings.{Lists};
+ghost use Rattle.terms.specs.Scope.{Scope};
+ghost use Rattle.terms.specs.Meanings.{Lists, Means};
 ghost use Rattle.roles.specs.Parties.{makes-of};
 ghost use Rattle.roles.specs.Playing.{says, hears};
+ghost use Rattle.roles.specs.Starting.{started, Starts-as};
 ghost use Rattle.roles.specs.Players.{player-of, Plays};
 ghost use Rattle.roles.specs.Roles.{Fit, Keeps};
 ghost use Rattle.roles.specs.Ended.{too-much, refused-as, Keeps-rest, Ends};
@@ -47,7 +49,8 @@ impl Role {
         name: Name,
         limits: Limits,
     ) -> Result<Role, LineFault>
-        ensures { λ r. ⌜ made r (λ role. Fit (now (declarations .entry) .terms) (role .party) (role .state)) ⌝ }
+        ensures fits { λ r. ⌜ made r (λ role. Fit (now (declarations .entry) .terms) (role .party) (role .state)) ⌝ }
+        ensures starts { λ r. ⌜ ((S : Scope) → Means (now (declarations .entry)) S → Starts-as (now (declarations .entry) .terms) (started limits S number name) r) ⌝ }
     {
         let terms = declarations.starting_terms(heap, number)?;
         let party = Party::of(heap, declarations, number)?;

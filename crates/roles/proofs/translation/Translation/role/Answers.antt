@@ -15,7 +15,7 @@ returns c =
     let k = c .args .self .now .roles .ok .0 in
     let n = c .len-place .ensures in (
       subst⁻¹ (All-fit (c .args .self .now .declarations .terms)) e
-          (all-fit-push (c .args .self .now .declarations .terms) (vec-items (c .args .self .now .roles)) (c .in-Continue-role .role) (c .pre) (c .in-Continue-role .ensures tt)),
+          (all-fit-push (c .args .self .now .declarations .terms) (vec-items (c .args .self .now .roles)) (c .in-Continue-role .role) (c .pre) (c .in-Continue-role .ensures tt .fits)),
       omega arith,
       omega arith,
     )
