@@ -15,7 +15,7 @@ pub invariant_of-self-2 : goal.invariant_of-self-2
 invariant_of-self-2 c =
     let s = sound_of c.args.self.now in
     let t = sound_close _ _ s (vec_items c.pop.new.self) c.in-Some.row (record { at = c.index_mut.result.now.at; end = c.len.result; kind = c.index_mut.result.now.kind }) c.in-Some.ensures.items (let v = c.args.self.now.rows.ok.0 in omega arith) in
-    (t.few, (t.onward, (t.within, (t.inside, tt))))
+    record { few = t.few; onward = t.onward; within = t.within; inside = t.inside }
 
 pub returns : goal.returns
 returns c =

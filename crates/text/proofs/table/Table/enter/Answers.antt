@@ -10,4 +10,4 @@ invariant_of-self c =
     let v = c.args.self.now.rows.ok.0 in
     let g = longer_table (vec_items c.args.self.now.rows) (vec_items c.add.new.self.rows) (leaf_row c.args.at (Bracket c.args.symbol) (length (vec_items c.args.self.now.rows))) c.in_ok-add.ensures.0 in
     let t = sound_pending (vec_items c.add.new.self.rows) (vec_items c.add.new.self.pending) s c.len-row.result (omega arith) (is_ok c.push.result) (vec_items c.push.new.self) c.push.ensures.items in
-    (t.few, (t.onward, (t.within, (t.inside, tt))))
+    record { few = t.few; onward = t.onward; within = t.within; inside = t.inside }
