@@ -9,7 +9,7 @@ use Rattle.model.specs.Roles.{Role}
 use Rattle.model.specs.Runs.{Machine, ran, Outcome, ended, stopped, attempt, answer}
 use Rattle.model.specs.Readings.{reading_of}
 use Rattle.model.specs.Holdings.{ReadsAs}
-use Rattle.model.specs.Specifications.{Specification, message, Duty, begin as to_start, speak, listen, duties}
+use Rattle.model.specs.Specifications.{Specification, message, Duty, begin as to_start, speak, listen}
 use Rattle.model.specs.Programs.{next_role, line, takes, names, Turn, Stage, turn_of, stage, stages_from, all_makes}
 use Rattle.model.specs.Sessions.{View, State, only, to_begin, begins_next, valid, told, went_on, put, concluded, machine_for, tried}
 use Rattle.model.specs.SessionLaw.{Taken}

@@ -8,7 +8,7 @@ use Rattle.model.specs.Entries.{Has, AtRest}
 use Rattle.model.specs.Keeping.{Inv, Nobody, Kept}
 use Rattle.model.specs.Lives.{Life, starts, hears, OneOf, Passed, Holdings}
 use Rattle.model.proofs.Trees.{within_part}
-use Rattle.model.proofs.Deduction.{known, Saturated, derives_map}
+use Rattle.model.proofs.Deduction.{Saturated, derives_map}
 use Rattle.model.proofs.Entries.{entry, Keeps, knows_has, has_old, has_new}
 use Rattle.model.proofs.Growing.{stay, join, grows_has}
 use Rattle.model.proofs.Composing.{Whole}

@@ -1,5 +1,5 @@
 -- The rows that pass the check are those that can be held.
-use Rattle.std.proofs.Common.{◌≡◌, ℕ, zero, suc, ◌<◌, ◌≤◌, Bool, true, false, not, ◌&&◌, ◌||◌, eqb, leb, ◌⊎◌, ◌↔◌, List, [], ◌∷◌, ◌++◌, length, sym, refl, ap, ◌∙◌, subst, ap₂, inl, inr, arith, eq-eqb, le-leb, leb-true}
+use Rattle.std.proofs.Common.{◌≡◌, ℕ, zero, suc, ◌<◌, ◌≤◌, Bool, true, false, not, ◌&&◌, ◌||◌, eqb, leb, ◌⊎◌, List, [], ◌∷◌, ◌++◌, length, sym, refl, ap, ◌∙◌, ap₂, inl, inr, arith, eq-eqb, le-leb, leb-true}
 use mathlib.Core.Path.{subst⁻¹}
 use Rattle.program.specs.declared.action.Row.{Row}
 use Rattle.program.specs.Held.{reads, fills, counted, has, has_all, has_none, row_passes, passes_from, passes, at, Held, CheckLaw}

@@ -1,5 +1,5 @@
 -- The text of each action, from what was written for it.
-use Rattle.std.proofs.Common.{◌≡◌, ℕ, ◌<◌, Bool, true, cond, List, [], ◌∷◌, ◌++◌, IfOk, codes, decimal, Result, sym, refl, ap, ◌∙◌}
+use Rattle.std.proofs.Common.{◌≡◌, ℕ, ◌<◌, Bool, true, cond, List, [], ◌∷◌, ◌++◌, IfOk, codes, decimal, Result, ap, ◌∙◌}
 use mathlib.Core.Path.{subst⁻¹}
 use Rattle.program.specs.declared.action.Action.{Action}
 use Rattle.program.specs.declared.action.Action.TheVariants.{Tuple, Apply, OpenApply}

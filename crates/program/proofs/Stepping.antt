@@ -1,11 +1,11 @@
 -- One row of the check.
-use Rattle.std.proofs.Common.{◌≡◌, ℕ, ◌≤◌, Bool, true, false, ◌&&◌, leb, List, ◌++◌, sym, refl, ap, ◌∙◌, ap₂}
+use Rattle.std.proofs.Common.{◌≡◌, ℕ, Bool, true, false, ◌&&◌, leb, List, ◌++◌, sym, refl, ap, ◌∙◌}
 use mathlib.Core.Path.{subst⁻¹}
 use Rattle.program.specs.declared.action.Action.{Action}
 use Rattle.program.specs.declared.action.Action.TheVariants.{Give, New, Hear, Say, Same, Crypt, Tuple, Apply, OpenCrypt, OpenTuple, OpenApply}
 use Rattle.program.specs.declared.action.Row.{Row}
 use Rattle.program.specs.declared.check.Span.{Span}
-use Rattle.program.specs.Held.{from, reads, fills, counted, has_all, has_none, row_passes}
+use Rattle.program.specs.Held.{from, reads, fills, counted, has_none, row_passes}
 use Rattle.program.specs.Checked.{Marks, marked_all, Fills, Steps, span_of}
 use Rattle.program.proofs.Filling.{marked_has}
 

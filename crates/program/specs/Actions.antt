@@ -1,5 +1,5 @@
 -- What the actions of a program are to the model.
-use Rattle.std.specs.Prelude.{ℕ, List, [], ◌∷◌, Some, None, Option, slice_index}
+use Rattle.std.specs.Prelude.{ℕ, [], ◌∷◌, Some, None, Option, slice_index}
 use Rattle.model.specs.Trees.{Head, tupled, crypted, applied}
 use Rattle.model.specs.Roles.{Act, give, new, hear, say, same, make, split, unlock}
 use Rattle.program.specs.declared.kind.Kind.{Kind}

@@ -1,4 +1,6 @@
 // Role programs: actions on registers, their text, and which programs can be held.
+#![tactic(auto)]
+
 pub mod action;
 mod check;
 pub mod held;

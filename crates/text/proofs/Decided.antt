@@ -1,8 +1,8 @@
 -- The law leaves one answer.
-use Rattle.std.proofs.Common.{◌≡◌, ℕ, suc, ◌+◌, ◌<◌, ◌≤◌, ◌⊎◌, List, [], ◌∷◌, ◌++◌, length, take, drop, Ok, Err, Result, sym, refl, ap, ◌∙◌, subst, inl, inr, ⊎_elim, append_assoc, arith, take-append-drop, take-take}
+use Rattle.std.proofs.Common.{◌≡◌, ℕ, ◌+◌, ◌<◌, ◌≤◌, ◌⊎◌, List, [], ◌∷◌, ◌++◌, length, take, drop, Ok, Err, Result, sym, ap, ◌∙◌, subst, inl, inr, ⊎_elim, append_assoc, arith, take-append-drop, take-take}
 use Rattle.std.proofs.lemmas.Bool.{cases_lt, cases_order}
-use Rattle.text.specs.Grammar.{Text, Begins}
-use Rattle.text.specs.Law.{nodes, From, Shallow, Fits, FitsBefore, Passes, Spelled, Breaks, Exceeds, Obeys}
+use Rattle.text.specs.Grammar.{Text}
+use Rattle.text.specs.Law.{From, Shallow, FitsBefore, Passes, Spelled, Breaks, Exceeds, Obeys}
 use Rattle.text.specs.Reading.{reading}
 use Rattle.text.specs.Trees.{Tree}
 use Rattle.text.specs.declared.fault.TextFault.{TextFault}

@@ -2,7 +2,7 @@
 use Rattle.std.proofs.Common.{◌≡◌, ℕ, suc, ◌+◌, ◌<◌, ◌≤◌, min, Bool, true, false, cond, ltb, leb, List, [], ◌∷◌, ◌++◌, length, take, drop, Ok, Err, Result, sym, refl, ap, ◌∙◌, subst, inl, inr, ⊎_elim, append-nil, arith, length-append, take-append-drop, length-take, take_all, take-take}
 use Rattle.std.proofs.lemmas.Bool.{leb-true, leb-false, ltb-true, ltb-false, cases_lt}
 use Rattle.text.specs.Grammar.{Text, Begins}
-use Rattle.text.specs.Law.{nodes, Shallow, Fits, FitsBefore, Passes, Spelled, Breaks, Exceeds, Obeys, Lawful, Known, Accepted, Accepts}
+use Rattle.text.specs.Law.{nodes, Shallow, Fits, FitsBefore, Passes, Breaks, Exceeds, Obeys, Lawful, Known, Accepted, Accepts}
 use Rattle.text.specs.Machine.{State, between, before, Step, broken, goes, begins, step}
 use Rattle.text.specs.Reading.{read, reading, too_long, Answers}
 use Rattle.text.specs.Trees.{Tree, table}

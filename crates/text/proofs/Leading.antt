@@ -10,7 +10,7 @@ use Rattle.text.specs.Machine.{Frame, Point, before, inside, after, between, put
 use Rattle.text.specs.Reading.{count, full, read, reading, too_long, cut, Answers}
 use Rattle.text.specs.Standing.{opens, Stands, level, Begun, Whole, Leads}
 use Rattle.text.specs.Tokens.{Lexed, lex, Read}
-use Rattle.text.specs.Trees.{Tree, bracket, none, more, rows, table}
+use Rattle.text.specs.Trees.{Tree, none, rows, table}
 use Rattle.text.specs.declared.fault.TextFault.{TextFault}
 use Rattle.text.specs.declared.fault.TextFault.TheVariants.{Limit, Broken, NoMemory}
 use Rattle.text.specs.declared.node.Node.{Node}

@@ -6,7 +6,7 @@ use Rattle.text.specs.Filling.{leaf_row, with_end, no_row}
 use Rattle.text.specs.Machine.{Frame, inside, put, closed}
 use Rattle.text.specs.Reading.{count, full}
 use Rattle.text.specs.Standing.{tabled, opens, Stands, level}
-use Rattle.text.specs.Trees.{Tree, quoted, integer, bracket, Trees, none, more, size, sizes, rows, rows_all, table, add}
+use Rattle.text.specs.Trees.{Tree, quoted, integer, bracket, Trees, none, more, size, sizes, rows, rows_all, add}
 use Rattle.text.specs.declared.node.Node.{Node}
 use Rattle.text.specs.declared.node.NodeKind.TheVariants.{Quoted, Integer, Bracket}
 use Rattle.text.specs.declared.part.Part.{Part}

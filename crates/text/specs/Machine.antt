@@ -1,7 +1,7 @@
 -- Reading, byte by byte.
 use Rattle.std.specs.Prelude.{ℕ, ◌+◌, ◌-◌, ◌*◌, Bool, cond, List, [], ◌∷◌, Ok, Err, Result, nat_le}
 use Rattle.text.specs.Bytes.{class}
-use Rattle.text.specs.Trees.{Tree, quoted, integer, bracket, Trees, none, more, add}
+use Rattle.text.specs.Trees.{Tree, quoted, integer, bracket, Trees, none, add}
 use Rattle.text.specs.declared.class.ByteClass.{ByteClass}
 use Rattle.text.specs.declared.class.ByteClass.TheVariants.{Blank, Quote, Open, Close, Digit, Backslash, Other}
 use Rattle.text.specs.declared.fault.TextFault.{TextFault}

@@ -1,4 +1,6 @@
 // Reading text: from bytes to a table of nodes with their places.
+#![tactic(auto)]
+
 pub mod class;
 pub mod fault;
 pub mod node;

@@ -1,6 +1,6 @@
 use Rattle.std.proofs.Common.{vec_items, ap}
 use Rattle.std.proofs.lemmas.Result.{err_from_is_err_and}
-use Rattle.text.specs.Trees.{quoted, integer, rows}
+use Rattle.text.specs.Trees.{quoted, integer}
 use Rattle.text.specs.declared.node.NodeKind.TheVariants.{Quoted, Integer, Bracket}
 use Rattle.text.proofs.Forward.{moved}
 use Rattle.text.proofs.Sound.{sound_of}

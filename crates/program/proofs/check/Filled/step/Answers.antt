@@ -1,5 +1,4 @@
-use Rattle.std.proofs.Common.{vec_items, sym, ◌∙◌, rules, le-leb}
-use borrow.Author.Tests.{lt-leb}
+use Rattle.std.proofs.Common.{vec_items, sym, rules}
 use Rattle.program.proofs.Stepping.{line_falls, unfilled, not_counted, stepped}
 use Rattle.program.proofs.check.Filled.step.Goals as goal
 

@@ -1,4 +1,4 @@
-use Rattle.std.proofs.Common.{sym, arith, rules}
+use Rattle.std.proofs.Common.{sym, rules}
 use Rattle.std.proofs.lemmas.List.{take_all}
 use Rattle.program.proofs.parts.Parts.as_slice.Goals as goal
 

@@ -1,6 +1,5 @@
 use Rattle.std.proofs.Common.{get_or, sym, ap, ◌∙◌, arith}
 use Rattle.std.proofs.lemmas.List.{get_or_past}
-use Rattle.program.specs.Parts.{parts_of}
 use Rattle.program.proofs.parts.Parts.at.Goals as goal
 
 pub returns-then-place-items : goal.returns-then-place-items

@@ -1,4 +1,4 @@
-use Rattle.std.proofs.Common.{arith, rules}
+use Rattle.std.proofs.Common.{rules}
 use Rattle.program.proofs.Shortened.{push_room, push_full}
 use Rattle.program.proofs.parts.Parts.push.Goals as goal
 
