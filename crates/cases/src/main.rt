@@ -1,4 +1,6 @@
 // cases: the translator on every tree of a list, a line for each with what came of it.
+#![tactic(auto)]
+
 use anyhow::anyhow;
 use roles::translate::translate;
 use roles::translation::Translation;

@@ -1,4 +1,6 @@
 // narrate: a tree on standard input, the programs of its roles on standard output, or one line that says why not and where.
+#![tactic(auto)]
+
 use anyhow::anyhow;
 use roles::translate::translate;
 use std::io;

@@ -2,7 +2,10 @@
 use Rattle.std.proofs.Common.{◌≡◌, ℕ, Bool, true, false, cond, List, [], ◌∷◌, Some, None, codes, Decides, Option, sym, refl, ap, ◌∙◌, subst, arith, Bor}
 use Prim.Native.String.{String}
 use Rattle.std.specs.Str.{bytes_eq}
-use Rattle.std.proofs.lemmas.Slice.Eq.{bytes_eq-Decides}
+use Rattle.std.proofs.lemmas.Slice.Eq.{bytes_eq-Decides, slice_eq-Decides}
+use Rattle.std.proofs.lemmas.Bool.Decides.{Decides-eqb}
+use Rattle.std.proofs.Math.Dec.{eqb}
+use lib.Pointwise.{pointwise}
 use Rattle.syntax.specs.declared.symbol.FunctionClass.{FunctionClass}
 use Rattle.syntax.specs.declared.symbol.Section.{Section}
 use Rattle.syntax.specs.declared.symbol.Section.TheVariants as sections
@@ -12,13 +15,20 @@ use Rattle.syntax.specs.Seeing.{section_word}
 use Rattle.syntax.specs.Symbols.{carried, not_carried, found, one_of, other, symbol, entries, spellings}
 
 -- the test of bytes, either way round
-pub decided : (xs ys : List ℕ) (r : Bool) → Decides r (xs ≡ ys) → bytes_eq ys xs ≡ r
-decided xs ys r h = go r (bytes_eq ys xs) h (bytes_eq-Decides ys xs)
+pub decided : (xs ys : List ℕ) (r : Bool) → r ≡ pointwise eqb xs ys → bytes_eq ys xs ≡ r
+decided xs ys r e = go r (bytes_eq ys xs) (slice_eq-Decides Decides-eqb xs ys r e) (bytes_eq-Decides ys xs)
   where
     go : (a b : Bool) → Decides a (xs ≡ ys) → Decides b (ys ≡ xs) → b ≡ a
     go true b p q = q.1 (sym (p.0 refl))
     go false true p q = sym (p.1 (sym (q.0 refl)))
     go false false p q = refl
+
+-- what stands past the end of a table of spellings, and of a list of them
+abbrev pub no_word : Bor (List ℕ)
+no_word = record { ref_ptr = (0, 0); now = [] }
+
+abbrev pub no_entry : Bor (List ℕ) × Symbol
+no_entry = (no_word, symbols.Spec)
 
 pub same_so : (xs ys : List ℕ) → bytes_eq xs ys ≡ true → xs ≡ ys
 same_so xs ys h = (bytes_eq-Decides xs ys).0 h

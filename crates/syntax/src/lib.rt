@@ -1,4 +1,6 @@
 // The shape of a specification: from a table of nodes to declarations, lines and terms.
+#![tactic(auto)]
+
 pub mod fault;
 mod name;
 mod shape;

@@ -1,4 +1,6 @@
 // Declarations, types and numbered terms.
+#![tactic(auto)]
+
 pub mod declarations;
 mod declare;
 pub mod fault;

@@ -45,14 +45,14 @@ term-returns-in_err-name t c =
     let p = err_from_is_err_and c.from_residual.result c.from_residual.ensures.1 in
     rw (p.1, p.2) (λ u s. terming.fault_term c.args.self.text.now u c.in_err-name.field-0.0 (node.seen_fault c.args.self.text.now c.args.node u c.in_err-name.field-0.0 (c.in_err-name.ensures.seen u s)))
 
-pub term-returns-in_err-name-2 : goal.term-returns-in_err-name-2
-term-returns-in_err-name-2 t c =
-    let p = err_from_is_err_and c.from_residual-in_err-name-2.result c.from_residual-in_err-name-2.ensures.1 in
-    rw (p.1, p.2) (λ u s. terming.long_term c.args.self.text.now u c.in-Name.name (node.seen_name c.args.self.text.now c.args.node u c.in-Name.name (ap Ok (sym c.in-Name.is) ∙ c.in_ok-name.ensures.seen u s)) c.in_err-name-2.field-0.0 c.in_err-name-2.ensures)
+pub term-returns-in_err-name-in-Name : goal.term-returns-in_err-name-in-Name
+term-returns-in_err-name-in-Name t c =
+    let p = err_from_is_err_and c.from_residual-in_err-name-in-Name.result c.from_residual-in_err-name-in-Name.ensures.1 in
+    rw (p.1, p.2) (λ u s. terming.long_term c.args.self.text.now u c.in-Name.name (node.seen_name c.args.self.text.now c.args.node u c.in-Name.name (ap Ok (sym c.in-Name.is) ∙ c.in_ok-name.ensures.seen u s)) c.in_err-name-in-Name.field-0.0 c.in_err-name-in-Name.ensures)
 
-pub term-returns-in_ok-push : goal.term-returns-in_ok-push
-term-returns-in_ok-push t c = λ u s.
-    terming.short_term c.args.self.text.now u c.in-Name.name c.in_ok-name-2.name (node.seen_name c.args.self.text.now c.args.node u c.in-Name.name (ap Ok (sym c.in-Name.is) ∙ c.in_ok-name.ensures.seen u s)) c.in_ok-name-2.ensures (vec_items c.args.terms.now) (vec_items c.push.new.self) c.in_ok-push.ensures.items
+pub term-returns-in_ok-push-in-Name : goal.term-returns-in_ok-push-in-Name
+term-returns-in_ok-push-in-Name t c = λ u s.
+    terming.short_term c.args.self.text.now u c.in-Name.name c.in_ok-name-in-Name.name (node.seen_name c.args.self.text.now c.args.node u c.in-Name.name (ap Ok (sym c.in-Name.is) ∙ c.in_ok-name.ensures.seen u s)) c.in_ok-name-in-Name.ensures (vec_items c.args.terms.now) (vec_items c.push.new.self) c.in_ok-push-in-Name.ensures.items
 
 pub term-returns-in-Number : goal.term-returns-in-Number
 term-returns-in-Number t c = λ u s. terming.number_term c.args.self.text.now u c.in-Number.at c.in-Number.value (node.seen_number c.args.self.text.now c.args.node u c.in-Number.at c.in-Number.value (ap Ok (sym c.in-Number.is) ∙ c.in_ok-name.ensures.seen u s))

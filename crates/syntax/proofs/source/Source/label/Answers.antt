@@ -12,13 +12,13 @@ returns-in_err-name c =
     let p = err_from_is_err_and c.from_residual.result c.from_residual.ensures.1 in
     rw (p.1, p.2) (λ t s. sym (labels.fault_label c.args.self.text.now t c.in_err-name.field-0.0 (node.seen_fault c.args.self.text.now c.args.node t c.in_err-name.field-0.0 (c.in_err-name.ensures.seen t s))))
 
-pub returns-in_err-short : goal.returns-in_err-short
-returns-in_err-short c =
-    let p = err_from_is_err_and c.from_residual-in_err-short.result c.from_residual-in_err-short.ensures.1 in
-    rw (p.1, p.2) (λ t s. labels.name_label c.args.self.text.now t c.in-Name.name (node.seen_name c.args.self.text.now c.args.node t c.in-Name.name (ap Ok (sym c.in-Name.is) ∙ c.in_ok-name.ensures.seen t s)) (Err c.in_err-short.field-0.0) c.in_err-short.ensures)
+pub returns-in_err-short-in-Name : goal.returns-in_err-short-in-Name
+returns-in_err-short-in-Name c =
+    let p = err_from_is_err_and c.from_residual-in_err-short-in-Name.result c.from_residual-in_err-short-in-Name.ensures.1 in
+    rw (p.1, p.2) (λ t s. labels.name_label c.args.self.text.now t c.in-Name.name (node.seen_name c.args.self.text.now c.args.node t c.in-Name.name (ap Ok (sym c.in-Name.is) ∙ c.in_ok-name.ensures.seen t s)) (Err c.in_err-short-in-Name.field-0.0) c.in_err-short-in-Name.ensures)
 
-pub returns-in_ok-short : goal.returns-in_ok-short
-returns-in_ok-short c = λ t s. labels.name_label c.args.self.text.now t c.in-Name.name (node.seen_name c.args.self.text.now c.args.node t c.in-Name.name (ap Ok (sym c.in-Name.is) ∙ c.in_ok-name.ensures.seen t s)) (Ok c.in_ok-short.field-0) c.in_ok-short.ensures
+pub returns-in_ok-short-in-Name : goal.returns-in_ok-short-in-Name
+returns-in_ok-short-in-Name c = λ t s. labels.name_label c.args.self.text.now t c.in-Name.name (node.seen_name c.args.self.text.now c.args.node t c.in-Name.name (ap Ok (sym c.in-Name.is) ∙ c.in_ok-name.ensures.seen t s)) (Ok c.in_ok-short-in-Name.field-0) c.in_ok-short-in-Name.ensures
 
 pub returns-in-Number : goal.returns-in-Number
 returns-in-Number c = λ t s. sym (ap (label c.args.self.text.now) (node.seen_number c.args.self.text.now c.args.node t c.in-Number.at c.in-Number.value (ap Ok (sym c.in-Number.is) ∙ c.in_ok-name.ensures.seen t s)))

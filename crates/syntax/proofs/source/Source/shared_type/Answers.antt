@@ -18,14 +18,14 @@ returns-in_err-kind c =
     let p = err_from_is_err_and c.from_residual.result c.from_residual.ensures.1 in
     rw (p.1, p.2) (λ t s. declaring.fault_shared c.args.self.text.now c.args.name t c.in_err-kind.field-0.0 (node.seen_fault c.args.self.text.now c.args.node t c.in_err-kind.field-0.0 (c.in_err-kind.ensures.seen t s)))
 
-pub returns-in_err-kind-2 : goal.returns-in_err-kind-2
-returns-in_err-kind-2 c =
-    let p = err_from_is_err_and c.from_residual-in_err-kind-2.result c.from_residual-in_err-kind-2.ensures.1 in
-    rw (p.1, p.2) (λ t s. refuses c.in_err-kind-2.field-0.0 (declaring.name_shared c.args.self.text.now c.args.name t c.in-Name.kind (node.seen_name c.args.self.text.now c.args.node t c.in-Name.kind (ap Ok (sym c.in-Name.is) ∙ c.in_ok-kind.ensures.seen t s)) (Err c.in_err-kind-2.field-0.0) c.in_err-kind-2.ensures))
+pub returns-in_err-kind-in-Name : goal.returns-in_err-kind-in-Name
+returns-in_err-kind-in-Name c =
+    let p = err_from_is_err_and c.from_residual-in_err-kind-in-Name.result c.from_residual-in_err-kind-in-Name.ensures.1 in
+    rw (p.1, p.2) (λ t s. refuses c.in_err-kind-in-Name.field-0.0 (declaring.name_shared c.args.self.text.now c.args.name t c.in-Name.kind (node.seen_name c.args.self.text.now c.args.node t c.in-Name.kind (ap Ok (sym c.in-Name.is) ∙ c.in_ok-kind.ensures.seen t s)) (Err c.in_err-kind-in-Name.field-0.0) c.in_err-kind-in-Name.ensures))
 
-pub returns-in_ok-push : goal.returns-in_ok-push
-returns-in_ok-push c = λ t s.
-    (value c.args.name c.in_ok-kind-2.kind true, declaring.name_shared c.args.self.text.now c.args.name t c.in-Name.kind (node.seen_name c.args.self.text.now c.args.node t c.in-Name.kind (ap Ok (sym c.in-Name.is) ∙ c.in_ok-kind.ensures.seen t s)) (Ok c.in_ok-kind-2.kind) c.in_ok-kind-2.ensures, growing.declares_one c.args.spec.now (record { declarations = c.push.new.self; parameters = c.args.spec.now.parameters; lines = c.args.spec.now.lines; terms = c.args.spec.now.terms }) (value c.args.name c.in_ok-kind-2.kind true) c.in_ok-push.ensures.items (sym (append-nil _)) refl (sym (append-nil _)))
+pub returns-in_ok-push-in-Name : goal.returns-in_ok-push-in-Name
+returns-in_ok-push-in-Name c = λ t s.
+    (value c.args.name c.in_ok-kind-in-Name.kind true, declaring.name_shared c.args.self.text.now c.args.name t c.in-Name.kind (node.seen_name c.args.self.text.now c.args.node t c.in-Name.kind (ap Ok (sym c.in-Name.is) ∙ c.in_ok-kind.ensures.seen t s)) (Ok c.in_ok-kind-in-Name.kind) c.in_ok-kind-in-Name.ensures, growing.declares_one c.args.spec.now (record { declarations = c.push.new.self; parameters = c.args.spec.now.parameters; lines = c.args.spec.now.lines; terms = c.args.spec.now.terms }) (value c.args.name c.in_ok-kind-in-Name.kind true) c.in_ok-push-in-Name.ensures.items (sym (append-nil _)) refl (sym (append-nil _)))
 
 pub returns-in-Number : goal.returns-in-Number
 returns-in-Number c = λ t s. ap (shared_as c.args.self.text.now c.args.name) (node.seen_number c.args.self.text.now c.args.node t c.in-Number.at c.in-Number.value (ap Ok (sym c.in-Number.is) ∙ c.in_ok-kind.ensures.seen t s))
