@@ -92,6 +92,9 @@ def declared():
         for m in re.finditer(rf"\blet ({W}) (?=[:=])|λ ((?:{W} )*{W})\.|\(({W}(?: {W})*) : ", code):
             here |= {w for g in m.groups() if g for w in g.split()}
         here |= {m.group(2) for m in ALIAS.finditer(code)} | {m.group(2) for m in MODULE.finditer(code)}
+    for path in files(".rt"):
+        for m in re.finditer(r"^ghost use ([^;]*);", read(path), re.M):
+            names |= {w for _, w in re.findall(rf"({W}) as ({W})", m.group(1))}
     names |= ALSO
     dashed = {n for n in names if "-" in n.strip("-") and n[0].isalpha() and n not in kept}
     for path in helpers:

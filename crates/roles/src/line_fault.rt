@@ -1,7 +1,7 @@
 // Why a line was refused.
 ghost use Rattle.std.specs.Prelude.{◌≡◌};
 ghost use Rattle.roles.specs.Refusals.{line_refusal, to_line};
-ghost use Rattle.roles.specs.declared.line_fault.LineFault.TheVariants as line-faults;
+ghost use Rattle.roles.specs.declared.line_fault.LineFault.TheVariants as line_faults;
 
 use std::alloc::AllocFailed;
 use terms::fault::TermFault;
@@ -61,7 +61,7 @@ impl From<TermFault> for LineFault {
 }
 
 impl<T: Drop> From<AllocFailed<T>> for LineFault {
-    ghost from_gives = { λ _ r. r ≡ line-faults.NoMemory };
+    ghost from_gives = { λ _ r. r ≡ line_faults.NoMemory };
 
     fn from(_refused: AllocFailed<T>) -> LineFault {
         LineFault::NoMemory

@@ -1,7 +1,7 @@
 // Why a text was not translated.
 ghost use Rattle.std.specs.Prelude.{◌≡◌};
 ghost use Rattle.roles.specs.Refusals.{translation_refusal};
-ghost use Rattle.roles.specs.declared.translation_fault.TranslationFault.TheVariants as translation-faults;
+ghost use Rattle.roles.specs.declared.translation_fault.TranslationFault.TheVariants as translation_faults;
 
 use crate::line_fault::LineFault;
 use syntax::fault::ShapeFault;
@@ -32,7 +32,7 @@ impl TranslationFault {
 }
 
 impl From<TextFault> for TranslationFault {
-    ghost from_gives = { λ e r. r ≡ translation-faults.Text e };
+    ghost from_gives = { λ e r. r ≡ translation_faults.Text e };
 
     fn from(fault: TextFault) -> TranslationFault {
         TranslationFault::Text(fault)
@@ -40,7 +40,7 @@ impl From<TextFault> for TranslationFault {
 }
 
 impl From<ShapeFault> for TranslationFault {
-    ghost from_gives = { λ e r. r ≡ translation-faults.Shape e };
+    ghost from_gives = { λ e r. r ≡ translation_faults.Shape e };
 
     fn from(fault: ShapeFault) -> TranslationFault {
         TranslationFault::Shape(fault)
@@ -48,7 +48,7 @@ impl From<ShapeFault> for TranslationFault {
 }
 
 impl From<DeclarationFault> for TranslationFault {
-    ghost from_gives = { λ e r. r ≡ translation-faults.Declarations e };
+    ghost from_gives = { λ e r. r ≡ translation_faults.Declarations e };
 
     fn from(fault: DeclarationFault) -> TranslationFault {
         TranslationFault::Declarations(fault)
@@ -56,7 +56,7 @@ impl From<DeclarationFault> for TranslationFault {
 }
 
 impl From<LineFault> for TranslationFault {
-    ghost from_gives = { λ e r. r ≡ translation-faults.Lines e };
+    ghost from_gives = { λ e r. r ≡ translation_faults.Lines e };
 
     fn from(fault: LineFault) -> TranslationFault {
         TranslationFault::Lines(fault)

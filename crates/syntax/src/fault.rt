@@ -1,7 +1,7 @@
 // Why the shape of a tree was refused.
 ghost use Rattle.std.specs.Prelude.{◌≡◌};
 ghost use Rattle.syntax.specs.Refusals.{shape_refusal};
-ghost use Rattle.syntax.specs.declared.fault.ShapeFault.TheVariants as shape-faults;
+ghost use Rattle.syntax.specs.declared.fault.ShapeFault.TheVariants as shape_faults;
 
 use std::alloc::AllocFailed;
 use text::fault::Refusal;
@@ -41,7 +41,7 @@ impl ShapeFault {
 }
 
 impl<T: Drop> From<AllocFailed<T>> for ShapeFault {
-    ghost from_gives = { λ _ r. r ≡ shape-faults.NoMemory };
+    ghost from_gives = { λ _ r. r ≡ shape_faults.NoMemory };
 
     fn from(_refused: AllocFailed<T>) -> ShapeFault {
         ShapeFault::NoMemory

@@ -151,10 +151,10 @@ fn type_of(text: &[u8], name: Name) -> Result<ValueType, DeclarationFault>
     ensures { result ≡ kind_of text.now name }
 {
     let kind = name.part.of(text);
-    if kind == b"number" {
+    if kind == b"number".as_slice() {
         return Ok(ValueType::Number);
     }
-    if kind == b"principal" {
+    if kind == b"principal".as_slice() {
         return Ok(ValueType::Principal);
     }
     Err(DeclarationFault::WrongType { at: name.at })

@@ -1,8 +1,8 @@
 // Why a declaration or a term was refused.
 ghost use Rattle.std.specs.Prelude.{◌≡◌};
 ghost use Rattle.terms.specs.Refusals.{declaration_refusal, to_declaration};
-ghost use Rattle.terms.specs.declared.fault.TermFault.TheVariants as term-faults;
-ghost use Rattle.terms.specs.declared.fault.DeclarationFault.TheVariants as declaration-faults;
+ghost use Rattle.terms.specs.declared.fault.TermFault.TheVariants as term_faults;
+ghost use Rattle.terms.specs.declared.fault.DeclarationFault.TheVariants as declaration_faults;
 
 use std::alloc::AllocFailed;
 use text::fault::Refusal;
@@ -19,7 +19,7 @@ pub enum TermFault {
 }
 
 impl<T: Drop> From<AllocFailed<T>> for TermFault {
-    ghost from_gives = { λ _ r. r ≡ term-faults.NoMemory };
+    ghost from_gives = { λ _ r. r ≡ term_faults.NoMemory };
 
     fn from(_refused: AllocFailed<T>) -> TermFault {
         TermFault::NoMemory
@@ -71,7 +71,7 @@ impl From<TermFault> for DeclarationFault {
 }
 
 impl<T: Drop> From<AllocFailed<T>> for DeclarationFault {
-    ghost from_gives = { λ _ r. r ≡ declaration-faults.NoMemory };
+    ghost from_gives = { λ _ r. r ≡ declaration_faults.NoMemory };
 
     fn from(_refused: AllocFailed<T>) -> DeclarationFault {
         DeclarationFault::NoMemory

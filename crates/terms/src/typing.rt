@@ -1,9 +1,9 @@
 // The types of a term: a node before its parts.
 ghost use Rattle.std.specs.Prelude.{◌≡◌, ◌<◌, ◌≤◌, IfOk, slice_index_or};
 ghost use Rattle.terms.specs.Scope.{meaning_of};
-ghost use Rattle.terms.specs.Typing.{fits as type-fits, name_fits};
+ghost use Rattle.terms.specs.Typing.{fits as type_fits, name_fits};
 ghost use Rattle.terms.specs.Checked.{wanted_of, Applied, Checked, CheckedAll};
-ghost use Rattle.terms.specs.declared.declarations.ValueType.TheVariants as value-type;
+ghost use Rattle.terms.specs.declared.declarations.ValueType.TheVariants as value_type;
 
 use crate::declarations::{Declarations, Function, Meaning, ValueType};
 use crate::fault::TermFault;
@@ -73,7 +73,7 @@ impl Declarations {
     }
 
     fn wanted(&self, function: Option<Function>, number: u8) -> ValueType
-        ensures { result ≡ slice_index_or (wanted_of self.now.parameters.items function) number value-type.Number }
+        ensures { result ≡ slice_index_or (wanted_of self.now.parameters.items function) number value_type.Number }
     {
         let Some(function) = function else {
             return ValueType::Number;
@@ -116,7 +116,7 @@ impl Declarations {
 
 // A principal may stand where a number is wanted; otherwise types are equal.
 fn fits(at: usize, found: ValueType, wanted: ValueType) -> Result<(), TermFault>
-    ensures { result ≡ type-fits at found wanted }
+    ensures { result ≡ type_fits at found wanted }
 {
     if wanted == ValueType::Principal && found != ValueType::Principal {
         return Err(TermFault::WrongType { at });

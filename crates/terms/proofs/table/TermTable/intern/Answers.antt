@@ -22,7 +22,7 @@ invariant_of-self c =
     let s = sound_push (vec_items t.rows) c.args.row (record { ordered = t.ordered; whole = t.whole; distinct = t.distinct; numbered = t.numbered })
     (subst (λ n. Fits n c.args.row) t.rows.ok.0 c.requires) (subst (λ rows. Absent rows c.args.row) c.as_slice.ensures.value c.in_default.ensures) (omega arith)
     _ _ c.push.ensures.items in
-    (s.ordered, (s.whole, (s.distinct, (s.numbered, tt))))
+    record { ordered = s.ordered; whole = s.whole; distinct = s.distinct; numbered = s.numbered }
 
 pub returns : goal.returns
 returns c =
