@@ -1,17 +1,21 @@
 -- Names that are looked up.
-use Rattle.std.proofs.Common.{◌≡◌, ℕ, zero, suc, ◌+◌, ◌<◌, ◌≤◌, Bool, true, false, cond, List, [], ◌∷◌, length, get_or, drop, is_some, Some, None, Decides, Option, sym, refl, ap, ◌∙◌, arith, rules}
-use Rattle.std.specs.Cmp.Lexicographic.{Matches}
-use Rattle.std.proofs.lemmas.Slice.Eq.{slice_eq-Decides, compares_Decides}
+use Rattle.std.proofs.Common.{◌≡◌, ℕ, zero, suc, ◌+◌, ◌<◌, ◌≤◌, Bool, true, false, cond, ◌&&◌, List, [], ◌∷◌, length, get_or, drop, is_some, Some, None, Decides, Option, sym, refl, ap, ◌∙◌, arith, rules}
+use Rattle.std.proofs.Math.Dec.{eqb}
+use lib.Pointwise.{pointwise}
 use Rattle.std.proofs.lemmas.List.{at_drop_more, at_drop_all}
-use Rattle.std.proofs.lemmas.Bool.Decides.{same_from_decides, Decides-eqb}
 use Rattle.terms.specs.declared.declarations.Declared.{Declared}
 use Rattle.terms.specs.declared.declarations.Meaning.{Meaning}
 use Rattle.terms.specs.Scope.{bytes, eq_bytes, find_from, find_meaning}
 
 -- `==` on bytes
-pub same_bytes : (xs ys zs ws : List ℕ) (r : Bool) → xs ≡ zs → ys ≡ ws → Matches (λ (a b : ℕ) (t : Bool). Decides t (a ≡ b)) xs ys r → r ≡ eq_bytes zs ws
-same_bytes xs ys zs ws r p q m =
-    same_from_decides r (eq_bytes xs ys) (slice_eq-Decides Decides-eqb xs ys r m) (compares_Decides eq_bytes (search rules) xs ys) ∙ rw (p, q) refl
+pointwise_bytes : (xs ys : List ℕ) → pointwise eqb xs ys ≡ eq_bytes xs ys
+pointwise_bytes [] [] = refl
+pointwise_bytes [] (y ∷ ys) = refl
+pointwise_bytes (x ∷ xs) [] = refl
+pointwise_bytes (x ∷ xs) (y ∷ ys) = ap (λ z. eqb x y && z) (pointwise_bytes xs ys)
+
+pub same_bytes : (xs ys zs ws : List ℕ) (r : Bool) → xs ≡ zs → ys ≡ ws → r ≡ pointwise eqb xs ys → r ≡ eq_bytes zs ws
+same_bytes xs ys zs ws r p q m = m ∙ pointwise_bytes xs ys ∙ rw (p, q) refl
 
 module _ (text : List ℕ) (wanted : List ℕ) where
   module _ (ds : List Declared) (i : ℕ) (d : Declared) (h : i < length ds) (e : find_from text 0 ds wanted ≡ find_from text i (drop i ds) wanted) where

@@ -8,58 +8,58 @@ use Rattle.terms.proofs.declarations.Declarations.+check_check_parts.Goals as go
 pub check-returns-then-term-terms : goal.check-returns-then-term-terms
 check-returns-then-term-terms t c = record { further = tt; checked = past_checked c.args.text.now c.args.self.now c.args.terms.now c.args.term c.args.wanted _ c.if-term-terms.true }
 
-pub check-returns-in_err-check_name : goal.check-returns-in_err-check_name
-check-returns-in_err-check_name t c =
+pub check-returns-in_err-check_name-in-Name : goal.check-returns-in_err-check_name-in-Name
+check-returns-in_err-check_name-in-Name t c =
     let p = err_from_is_err_and c.from_residual.result c.from_residual.ensures.1 in
-    rw (p.1, p.2) (record { further = tt; checked = name_checked c.args.text.now c.args.self.now c.args.terms.now c.args.term c.if-term-terms.false (node_at c.args.terms.now c.args.term).at c.in-Name.part c.args.wanted (Err c.in_err-check_name.field-0.0) (Err c.in_err-check_name.field-0.0) (node_is c.args.terms.now c.args.term (form.Name c.in-Name.part) c.if-term-terms.false c.in-Name.is) c.in_err-check_name.ensures refl })
+    rw (p.1, p.2) (record { further = tt; checked = name_checked c.args.text.now c.args.self.now c.args.terms.now c.args.term c.if-term-terms.false (node_at c.args.terms.now c.args.term).at c.in-Name.part c.args.wanted (Err c.in_err-check_name-in-Name.field-0.0) (Err c.in_err-check_name-in-Name.field-0.0) (node_is c.args.terms.now c.args.term (form.Name c.in-Name.part) c.if-term-terms.false c.in-Name.is) c.in_err-check_name-in-Name.ensures refl })
 
-pub check-returns-in_err-fits : goal.check-returns-in_err-fits
-check-returns-in_err-fits t c =
-    let p = err_from_is_err_and c.from_residual-in_err-fits.result c.from_residual-in_err-fits.ensures.1 in
-    rw (p.1, p.2) (record { further = tt; checked = tuple_refused c.args.text.now c.args.self.now c.args.terms.now c.args.term c.if-term-terms.false (node_at c.args.terms.now c.args.term).at c.in-Tuple.parts c.args.wanted (node_is c.args.terms.now c.args.term (form.Tuple c.in-Tuple.parts) c.if-term-terms.false c.in-Tuple.is) c.in_err-fits.field-0.0 c.in_err-fits.ensures })
+pub check-returns-in_err-fits-in-Tuple : goal.check-returns-in_err-fits-in-Tuple
+check-returns-in_err-fits-in-Tuple t c =
+    let p = err_from_is_err_and c.from_residual-in_err-fits-in-Tuple.result c.from_residual-in_err-fits-in-Tuple.ensures.1 in
+    rw (p.1, p.2) (record { further = tt; checked = tuple_refused c.args.text.now c.args.self.now c.args.terms.now c.args.term c.if-term-terms.false (node_at c.args.terms.now c.args.term).at c.in-Tuple.parts c.args.wanted (node_is c.args.terms.now c.args.term (form.Tuple c.in-Tuple.parts) c.if-term-terms.false c.in-Tuple.is) c.in_err-fits-in-Tuple.field-0.0 c.in_err-fits-in-Tuple.ensures })
 
-pub check-returns-in_err-fits-2 : goal.check-returns-in_err-fits-2
-check-returns-in_err-fits-2 t c =
-    let p = err_from_is_err_and c.from_residual-in_err-fits-2.result c.from_residual-in_err-fits-2.ensures.1 in
-    rw (p.1, p.2) (record { further = tt; checked = crypt_refused c.args.text.now c.args.self.now c.args.terms.now c.args.term c.if-term-terms.false (node_at c.args.terms.now c.args.term).at c.args.wanted (node_is c.args.terms.now c.args.term (form.Crypt) c.if-term-terms.false c.in-Crypt.is) c.in_err-fits-2.field-0.0 c.in_err-fits-2.ensures })
+pub check-returns-in_err-fits-in-Crypt : goal.check-returns-in_err-fits-in-Crypt
+check-returns-in_err-fits-in-Crypt t c =
+    let p = err_from_is_err_and c.from_residual-in_err-fits-in-Crypt.result c.from_residual-in_err-fits-in-Crypt.ensures.1 in
+    rw (p.1, p.2) (record { further = tt; checked = crypt_refused c.args.text.now c.args.self.now c.args.terms.now c.args.term c.if-term-terms.false (node_at c.args.terms.now c.args.term).at c.args.wanted (node_is c.args.terms.now c.args.term (form.Crypt) c.if-term-terms.false c.in-Crypt.is) c.in_err-fits-in-Crypt.field-0.0 c.in_err-fits-in-Crypt.ensures })
 
-pub check-returns-in_err-function : goal.check-returns-in_err-function
-check-returns-in_err-function t c =
-    let p = err_from_is_err_and c.from_residual-in_err-function.result c.from_residual-in_err-function.ensures.1 in
-    rw (p.1, p.2) (record { further = tt; checked = unapplied c.args.text.now c.args.self.now c.args.terms.now c.args.term c.if-term-terms.false (node_at c.args.terms.now c.args.term).at c.in-Apply.function c.in-Apply.parts c.args.wanted (node_is c.args.terms.now c.args.term (form.Apply c.in-Apply.function c.in-Apply.parts) c.if-term-terms.false c.in-Apply.is) c.in_err-function.field-0.0 c.in_err-function.ensures })
+pub check-returns-in_err-function-in-Apply : goal.check-returns-in_err-function-in-Apply
+check-returns-in_err-function-in-Apply t c =
+    let p = err_from_is_err_and c.from_residual-in_err-function-in-Apply.result c.from_residual-in_err-function-in-Apply.ensures.1 in
+    rw (p.1, p.2) (record { further = tt; checked = unapplied c.args.text.now c.args.self.now c.args.terms.now c.args.term c.if-term-terms.false (node_at c.args.terms.now c.args.term).at c.in-Apply.function c.in-Apply.parts c.args.wanted (node_is c.args.terms.now c.args.term (form.Apply c.in-Apply.function c.in-Apply.parts) c.if-term-terms.false c.in-Apply.is) c.in_err-function-in-Apply.field-0.0 c.in_err-function-in-Apply.ensures })
 
 pub check-returns-then-saturating_sub-parts : goal.check-returns-then-saturating_sub-parts
 check-returns-then-saturating_sub-parts t c =
     let e = c.saturating_sub.ensures in
-    record { further = tt; checked = miscounted c.args.text.now c.args.self.now c.args.terms.now c.args.term c.if-term-terms.false (node_at c.args.terms.now c.args.term).at c.in-Apply.function c.in-Apply.parts c.args.wanted (node_is c.args.terms.now c.args.term (form.Apply c.in-Apply.function c.in-Apply.parts) c.if-term-terms.false c.in-Apply.is) c.in_ok-function.function c.in_ok-function.ensures (λ q. c.if-saturating_sub-parts.true (omega arith)) }
+    record { further = tt; checked = miscounted c.args.text.now c.args.self.now c.args.terms.now c.args.term c.if-term-terms.false (node_at c.args.terms.now c.args.term).at c.in-Apply.function c.in-Apply.parts c.args.wanted (node_is c.args.terms.now c.args.term (form.Apply c.in-Apply.function c.in-Apply.parts) c.if-term-terms.false c.in-Apply.is) c.in_ok-function-in-Apply.function c.in_ok-function-in-Apply.ensures (λ q. c.if-saturating_sub-parts.true (omega arith)) }
 
-pub check-returns-in_err-fits-3 : goal.check-returns-in_err-fits-3
-check-returns-in_err-fits-3 t c =
-    let p = err_from_is_err_and c.from_residual-in_err-fits-3.result c.from_residual-in_err-fits-3.ensures.1 in
-    rw (p.1, p.2) (record { further = tt; checked = result_refused c.args.text.now c.args.self.now c.args.terms.now c.args.term c.if-term-terms.false (node_at c.args.terms.now c.args.term).at c.in-Apply.function c.in-Apply.parts c.args.wanted (node_is c.args.terms.now c.args.term (form.Apply c.in-Apply.function c.in-Apply.parts) c.if-term-terms.false c.in-Apply.is) c.in_ok-function.function c.in_ok-function.ensures (let e = c.saturating_sub.ensures in let q = c.if-saturating_sub-parts.false in omega arith) c.in_err-fits-3.field-0.0 c.in_err-fits-3.ensures })
+pub check-returns-in_err-fits-in-Apply : goal.check-returns-in_err-fits-in-Apply
+check-returns-in_err-fits-in-Apply t c =
+    let p = err_from_is_err_and c.from_residual-in_err-fits-in-Apply.result c.from_residual-in_err-fits-in-Apply.ensures.1 in
+    rw (p.1, p.2) (record { further = tt; checked = result_refused c.args.text.now c.args.self.now c.args.terms.now c.args.term c.if-term-terms.false (node_at c.args.terms.now c.args.term).at c.in-Apply.function c.in-Apply.parts c.args.wanted (node_is c.args.terms.now c.args.term (form.Apply c.in-Apply.function c.in-Apply.parts) c.if-term-terms.false c.in-Apply.is) c.in_ok-function-in-Apply.function c.in_ok-function-in-Apply.ensures (let e = c.saturating_sub.ensures in let q = c.if-saturating_sub-parts.false in omega arith) c.in_err-fits-in-Apply.field-0.0 c.in_err-fits-in-Apply.ensures })
 
-pub check-returns-in_ok-check_name : goal.check-returns-in_ok-check_name
-check-returns-in_ok-check_name t c = record {
+pub check-returns-in_ok-check_name-in-Name : goal.check-returns-in_ok-check_name-in-Name
+check-returns-in_ok-check_name-in-Name t c = record {
   further = omega arith;
-  checked = name_checked c.args.text.now c.args.self.now c.args.terms.now c.args.term c.if-term-terms.false (node_at c.args.terms.now c.args.term).at c.in-Name.part c.args.wanted (Ok tt) _ (node_is c.args.terms.now c.args.term (form.Name c.in-Name.part) c.if-term-terms.false c.in-Name.is) c.in_ok-check_name.ensures refl;
+  checked = name_checked c.args.text.now c.args.self.now c.args.terms.now c.args.term c.if-term-terms.false (node_at c.args.terms.now c.args.term).at c.in-Name.part c.args.wanted (Ok tt) _ (node_is c.args.terms.now c.args.term (form.Name c.in-Name.part) c.if-term-terms.false c.in-Name.is) c.in_ok-check_name-in-Name.ensures refl;
 }
 
-pub check-returns-in_ok-fits : goal.check-returns-in_ok-fits
-check-returns-in_ok-fits t c = record {
+pub check-returns-in_ok-fits-in-Tuple : goal.check-returns-in_ok-fits-in-Tuple
+check-returns-in_ok-fits-in-Tuple t c = record {
   further = IfOk-weaker c.check_parts.result (λ next. c.args.term + 1 ≤ next) (λ next. c.args.term < next) (λ x h. omega arith) c.check_parts.ensures.further;
-  checked = tuple_checked c.args.text.now c.args.self.now c.args.terms.now c.args.term c.if-term-terms.false (node_at c.args.terms.now c.args.term).at c.in-Tuple.parts c.args.wanted (node_is c.args.terms.now c.args.term (form.Tuple c.in-Tuple.parts) c.if-term-terms.false c.in-Tuple.is) c.check_parts.result c.in_ok-fits.ensures c.check_parts.ensures.checked;
+  checked = tuple_checked c.args.text.now c.args.self.now c.args.terms.now c.args.term c.if-term-terms.false (node_at c.args.terms.now c.args.term).at c.in-Tuple.parts c.args.wanted (node_is c.args.terms.now c.args.term (form.Tuple c.in-Tuple.parts) c.if-term-terms.false c.in-Tuple.is) c.check_parts.result c.in_ok-fits-in-Tuple.ensures c.check_parts.ensures.checked;
 }
 
-pub check-returns-in_ok-fits-2 : goal.check-returns-in_ok-fits-2
-check-returns-in_ok-fits-2 t c = record {
+pub check-returns-in_ok-fits-in-Crypt : goal.check-returns-in_ok-fits-in-Crypt
+check-returns-in_ok-fits-in-Crypt t c = record {
   further = IfOk-weaker c.check_parts-in-Crypt.result (λ next. c.args.term + 1 ≤ next) (λ next. c.args.term < next) (λ x h. omega arith) c.check_parts-in-Crypt.ensures.further;
-  checked = crypt_checked c.args.text.now c.args.self.now c.args.terms.now c.args.term c.if-term-terms.false (node_at c.args.terms.now c.args.term).at c.args.wanted (node_is c.args.terms.now c.args.term (form.Crypt) c.if-term-terms.false c.in-Crypt.is) c.check_parts-in-Crypt.result c.in_ok-fits-2.ensures c.check_parts-in-Crypt.ensures.checked;
+  checked = crypt_checked c.args.text.now c.args.self.now c.args.terms.now c.args.term c.if-term-terms.false (node_at c.args.terms.now c.args.term).at c.args.wanted (node_is c.args.terms.now c.args.term (form.Crypt) c.if-term-terms.false c.in-Crypt.is) c.check_parts-in-Crypt.result c.in_ok-fits-in-Crypt.ensures c.check_parts-in-Crypt.ensures.checked;
 }
 
-pub check-returns-in_ok-fits-3 : goal.check-returns-in_ok-fits-3
-check-returns-in_ok-fits-3 t c = record {
+pub check-returns-in_ok-fits-in-Apply : goal.check-returns-in_ok-fits-in-Apply
+check-returns-in_ok-fits-in-Apply t c = record {
   further = IfOk-weaker c.check_parts-in-Apply.result (λ next. c.args.term + 1 ≤ next) (λ next. c.args.term < next) (λ x h. omega arith) c.check_parts-in-Apply.ensures.further;
-  checked = apply_checked c.args.text.now c.args.self.now c.args.terms.now c.args.term c.if-term-terms.false (node_at c.args.terms.now c.args.term).at c.in-Apply.function c.in-Apply.parts c.args.wanted (node_is c.args.terms.now c.args.term (form.Apply c.in-Apply.function c.in-Apply.parts) c.if-term-terms.false c.in-Apply.is) c.in_ok-function.function c.in_ok-function.ensures (let e = c.saturating_sub.ensures in let q = c.if-saturating_sub-parts.false in omega arith) c.check_parts-in-Apply.result c.in_ok-fits-3.ensures c.check_parts-in-Apply.ensures.checked;
+  checked = apply_checked c.args.text.now c.args.self.now c.args.terms.now c.args.term c.if-term-terms.false (node_at c.args.terms.now c.args.term).at c.in-Apply.function c.in-Apply.parts c.args.wanted (node_is c.args.terms.now c.args.term (form.Apply c.in-Apply.function c.in-Apply.parts) c.if-term-terms.false c.in-Apply.is) c.in_ok-function-in-Apply.function c.in_ok-function-in-Apply.ensures (let e = c.saturating_sub.ensures in let q = c.if-saturating_sub-parts.false in omega arith) c.check_parts-in-Apply.result c.in_ok-fits-in-Apply.ensures c.check_parts-in-Apply.ensures.checked;
 }
 
 pub check_parts-returns-in_err-next : goal.check_parts-returns-in_err-next

@@ -21,35 +21,35 @@ number-returns-then-term-terms t c = record { within = tt; same = record { names
 pub number-returns-in_default : goal.number-returns-in_default
 number-returns-in_default t c = record { within = tt; same = record { names = refl; functions = refl; parameters = refl; starts = refl; rights = refl }; reads = name_unknown c.args.text.now (vec_items c.args.self.now.names) c.args.terms.now c.args.most c.args.term c.args.self.now.terms c.if-term-terms.false (node_at c.args.terms.now c.args.term).at c.in-Name.name (node_is c.args.terms.now c.args.term (form.Name c.in-Name.name) c.if-term-terms.false c.in-Name.is) c.args.self.now.terms (Err (Undeclared (node_at c.args.terms.now c.args.term).at)) c.in_default.ensures }
 
-pub number-returns-in_err-number : goal.number-returns-in_err-number
-number-returns-in_err-number t c =
+pub number-returns-in_err-number-in-Name : goal.number-returns-in_err-number-in-Name
+number-returns-in_err-number-in-Name t c =
     let p = err_from_is_err_and c.from_residual.result c.from_residual.ensures.1 in
-    rw (p.1, p.2) (record { within = tt; same = record { names = refl; functions = refl; parameters = refl; starts = refl; rights = refl }; reads = name_refused c.args.text.now (vec_items c.args.self.now.names) c.args.terms.now c.args.most c.args.term c.args.self.now.terms c.if-term-terms.false (node_at c.args.terms.now c.args.term).at c.in-Name.name (node_is c.args.terms.now c.args.term (form.Name c.in-Name.name) c.if-term-terms.false c.in-Name.is) c.name.new.self c.in-Some.name c.in-Some.ensures c.in_err-number.field-0.0 c.in_err-number.ensures })
+    rw (p.1, p.2) (record { within = tt; same = record { names = refl; functions = refl; parameters = refl; starts = refl; rights = refl }; reads = name_refused c.args.text.now (vec_items c.args.self.now.names) c.args.terms.now c.args.most c.args.term c.args.self.now.terms c.if-term-terms.false (node_at c.args.terms.now c.args.term).at c.in-Name.name (node_is c.args.terms.now c.args.term (form.Name c.in-Name.name) c.if-term-terms.false c.in-Name.is) c.name.new.self c.in-Some.name c.in-Some.ensures c.in_err-number-in-Name.field-0.0 c.in_err-number-in-Name.ensures })
 
-pub number-returns-in_err-text_number : goal.number-returns-in_err-text_number
-number-returns-in_err-text_number t c =
-    let p = err_from_is_err_and c.from_residual-in_err-text_number.result c.from_residual-in_err-text_number.ensures.1 in
-    rw (p.1, p.2) (record { within = tt; same = record { names = c.number.ensures.same.names; functions = c.number.ensures.same.functions; parameters = c.number.ensures.same.parameters; starts = c.number.ensures.same.starts; rights = c.number.ensures.same.rights }; reads = text_refused c.args.text.now (vec_items c.args.self.now.names) c.args.terms.now c.args.most c.args.term c.args.self.now.terms c.if-term-terms.false (node_at c.args.terms.now c.args.term).at (node_is c.args.terms.now c.args.term (form.Crypt) c.if-term-terms.false c.in-Crypt.is) c.number.new.self.terms c.in_err-text_number.field-0.0 c.in_err-text_number.ensures.reads })
+pub number-returns-in_err-text_number-in-Crypt : goal.number-returns-in_err-text_number-in-Crypt
+number-returns-in_err-text_number-in-Crypt t c =
+    let p = err_from_is_err_and c.from_residual-in_err-text_number-in-Crypt.result c.from_residual-in_err-text_number-in-Crypt.ensures.1 in
+    rw (p.1, p.2) (record { within = tt; same = record { names = c.number.ensures.same.names; functions = c.number.ensures.same.functions; parameters = c.number.ensures.same.parameters; starts = c.number.ensures.same.starts; rights = c.number.ensures.same.rights }; reads = text_refused c.args.text.now (vec_items c.args.self.now.names) c.args.terms.now c.args.most c.args.term c.args.self.now.terms c.if-term-terms.false (node_at c.args.terms.now c.args.term).at (node_is c.args.terms.now c.args.term (form.Crypt) c.if-term-terms.false c.in-Crypt.is) c.number.new.self.terms c.in_err-text_number-in-Crypt.field-0.0 c.in_err-text_number-in-Crypt.ensures.reads })
 
-pub number-returns-in_err-key_number : goal.number-returns-in_err-key_number
-number-returns-in_err-key_number t c =
-    let p = err_from_is_err_and c.from_residual-in_err-key_number.result c.from_residual-in_err-key_number.ensures.1 in
-    rw (p.1, p.2) (record { within = tt; same = record { names = (same_on c.args.self.now c.number.new.self c.number-in-Crypt.new.self c.in_ok-text_number.ensures.same c.number-in-Crypt.ensures.same).names; functions = (same_on c.args.self.now c.number.new.self c.number-in-Crypt.new.self c.in_ok-text_number.ensures.same c.number-in-Crypt.ensures.same).functions; parameters = (same_on c.args.self.now c.number.new.self c.number-in-Crypt.new.self c.in_ok-text_number.ensures.same c.number-in-Crypt.ensures.same).parameters; starts = (same_on c.args.self.now c.number.new.self c.number-in-Crypt.new.self c.in_ok-text_number.ensures.same c.number-in-Crypt.ensures.same).starts; rights = (same_on c.args.self.now c.number.new.self c.number-in-Crypt.new.self c.in_ok-text_number.ensures.same c.number-in-Crypt.ensures.same).rights }; reads = key_refused c.args.text.now (vec_items c.args.self.now.names) c.args.terms.now c.args.most c.args.term c.args.self.now.terms c.if-term-terms.false (node_at c.args.terms.now c.args.term).at (node_is c.args.terms.now c.args.term (form.Crypt) c.if-term-terms.false c.in-Crypt.is) c.number.new.self.terms c.in_ok-text_number.text_number c.in_ok-text_number.key c.in_ok-text_number.ensures.reads c.number-in-Crypt.new.self.terms c.in_err-key_number.field-0.0 (subst (λ ns. Reads c.args.text.now (vec_items ns) c.number.new.self.terms c.number-in-Crypt.new.self.terms c.args.terms.now c.args.most c.in_ok-text_number.key (Err c.in_err-key_number.field-0.0)) c.in_ok-text_number.ensures.same.names c.in_err-key_number.ensures.reads) })
+pub number-returns-in_err-key_number-in-Crypt : goal.number-returns-in_err-key_number-in-Crypt
+number-returns-in_err-key_number-in-Crypt t c =
+    let p = err_from_is_err_and c.from_residual-in_err-key_number-in-Crypt.result c.from_residual-in_err-key_number-in-Crypt.ensures.1 in
+    rw (p.1, p.2) (record { within = tt; same = record { names = (same_on c.args.self.now c.number.new.self c.number-in-Crypt.new.self c.in_ok-text_number-in-Crypt.ensures.same c.number-in-Crypt.ensures.same).names; functions = (same_on c.args.self.now c.number.new.self c.number-in-Crypt.new.self c.in_ok-text_number-in-Crypt.ensures.same c.number-in-Crypt.ensures.same).functions; parameters = (same_on c.args.self.now c.number.new.self c.number-in-Crypt.new.self c.in_ok-text_number-in-Crypt.ensures.same c.number-in-Crypt.ensures.same).parameters; starts = (same_on c.args.self.now c.number.new.self c.number-in-Crypt.new.self c.in_ok-text_number-in-Crypt.ensures.same c.number-in-Crypt.ensures.same).starts; rights = (same_on c.args.self.now c.number.new.self c.number-in-Crypt.new.self c.in_ok-text_number-in-Crypt.ensures.same c.number-in-Crypt.ensures.same).rights }; reads = key_refused c.args.text.now (vec_items c.args.self.now.names) c.args.terms.now c.args.most c.args.term c.args.self.now.terms c.if-term-terms.false (node_at c.args.terms.now c.args.term).at (node_is c.args.terms.now c.args.term (form.Crypt) c.if-term-terms.false c.in-Crypt.is) c.number.new.self.terms c.in_ok-text_number-in-Crypt.text_number c.in_ok-text_number-in-Crypt.key c.in_ok-text_number-in-Crypt.ensures.reads c.number-in-Crypt.new.self.terms c.in_err-key_number-in-Crypt.field-0.0 (subst (λ ns. Reads c.args.text.now (vec_items ns) c.number.new.self.terms c.number-in-Crypt.new.self.terms c.args.terms.now c.args.most c.in_ok-text_number-in-Crypt.key (Err c.in_err-key_number-in-Crypt.field-0.0)) c.in_ok-text_number-in-Crypt.ensures.same.names c.in_err-key_number-in-Crypt.ensures.reads) })
 
-pub number-returns-in_err-number-2 : goal.number-returns-in_err-number-2
-number-returns-in_err-number-2 t c =
-    let p = err_from_is_err_and c.from_residual-in_err-number-2.result c.from_residual-in_err-number-2.ensures.1 in
-    rw (p.1, p.2) (record { within = tt; same = record { names = (same_on c.args.self.now c.number.new.self c.number-in-Crypt.new.self c.in_ok-text_number.ensures.same c.number-in-Crypt.ensures.same).names; functions = (same_on c.args.self.now c.number.new.self c.number-in-Crypt.new.self c.in_ok-text_number.ensures.same c.number-in-Crypt.ensures.same).functions; parameters = (same_on c.args.self.now c.number.new.self c.number-in-Crypt.new.self c.in_ok-text_number.ensures.same c.number-in-Crypt.ensures.same).parameters; starts = (same_on c.args.self.now c.number.new.self c.number-in-Crypt.new.self c.in_ok-text_number.ensures.same c.number-in-Crypt.ensures.same).starts; rights = (same_on c.args.self.now c.number.new.self c.number-in-Crypt.new.self c.in_ok-text_number.ensures.same c.number-in-Crypt.ensures.same).rights }; reads = crypt_refused c.args.text.now (vec_items c.args.self.now.names) c.args.terms.now c.args.most c.args.term c.args.self.now.terms c.if-term-terms.false (node_at c.args.terms.now c.args.term).at (node_is c.args.terms.now c.args.term (form.Crypt) c.if-term-terms.false c.in-Crypt.is) c.number.new.self.terms c.in_ok-text_number.text_number c.in_ok-text_number.key c.in_ok-text_number.ensures.reads c.number-in-Crypt.new.self.terms c.in_ok-key_number.key_number c.in_ok-key_number.end (subst (λ ns. Reads c.args.text.now (vec_items ns) c.number.new.self.terms c.number-in-Crypt.new.self.terms c.args.terms.now c.args.most c.in_ok-text_number.key (Ok (c.in_ok-key_number.key_number, c.in_ok-key_number.end))) c.in_ok-text_number.ensures.same.names c.in_ok-key_number.ensures.reads) c.in_ok-key_number.ensures.within.2 c.in_ok-text_number.ensures.within.0 c.in_ok-key_number.ensures.within.0 c.compound.new.self c.in_err-number-2.field-0.0 c.in_err-number-2.ensures })
+pub number-returns-in_err-number-in-Crypt : goal.number-returns-in_err-number-in-Crypt
+number-returns-in_err-number-in-Crypt t c =
+    let p = err_from_is_err_and c.from_residual-in_err-number-in-Crypt.result c.from_residual-in_err-number-in-Crypt.ensures.1 in
+    rw (p.1, p.2) (record { within = tt; same = record { names = (same_on c.args.self.now c.number.new.self c.number-in-Crypt.new.self c.in_ok-text_number-in-Crypt.ensures.same c.number-in-Crypt.ensures.same).names; functions = (same_on c.args.self.now c.number.new.self c.number-in-Crypt.new.self c.in_ok-text_number-in-Crypt.ensures.same c.number-in-Crypt.ensures.same).functions; parameters = (same_on c.args.self.now c.number.new.self c.number-in-Crypt.new.self c.in_ok-text_number-in-Crypt.ensures.same c.number-in-Crypt.ensures.same).parameters; starts = (same_on c.args.self.now c.number.new.self c.number-in-Crypt.new.self c.in_ok-text_number-in-Crypt.ensures.same c.number-in-Crypt.ensures.same).starts; rights = (same_on c.args.self.now c.number.new.self c.number-in-Crypt.new.self c.in_ok-text_number-in-Crypt.ensures.same c.number-in-Crypt.ensures.same).rights }; reads = crypt_refused c.args.text.now (vec_items c.args.self.now.names) c.args.terms.now c.args.most c.args.term c.args.self.now.terms c.if-term-terms.false (node_at c.args.terms.now c.args.term).at (node_is c.args.terms.now c.args.term (form.Crypt) c.if-term-terms.false c.in-Crypt.is) c.number.new.self.terms c.in_ok-text_number-in-Crypt.text_number c.in_ok-text_number-in-Crypt.key c.in_ok-text_number-in-Crypt.ensures.reads c.number-in-Crypt.new.self.terms c.in_ok-key_number-in-Crypt.key_number c.in_ok-key_number-in-Crypt.end (subst (λ ns. Reads c.args.text.now (vec_items ns) c.number.new.self.terms c.number-in-Crypt.new.self.terms c.args.terms.now c.args.most c.in_ok-text_number-in-Crypt.key (Ok (c.in_ok-key_number-in-Crypt.key_number, c.in_ok-key_number-in-Crypt.end))) c.in_ok-text_number-in-Crypt.ensures.same.names c.in_ok-key_number-in-Crypt.ensures.reads) c.in_ok-key_number-in-Crypt.ensures.within.2 c.in_ok-text_number-in-Crypt.ensures.within.0 c.in_ok-key_number-in-Crypt.ensures.within.0 c.compound.new.self c.in_err-number-in-Crypt.field-0.0 c.in_err-number-in-Crypt.ensures })
 
-pub number-returns-in_err-parts : goal.number-returns-in_err-parts
-number-returns-in_err-parts t c =
-    let p = err_from_is_err_and c.from_residual-in_err-parts.result c.from_residual-in_err-parts.ensures.1 in
-    rw (p.1, p.2) (record { within = tt; same = record { names = c.numbers.ensures.same.names; functions = c.numbers.ensures.same.functions; parameters = c.numbers.ensures.same.parameters; starts = c.numbers.ensures.same.starts; rights = c.numbers.ensures.same.rights }; reads = tuple_parts_refused c.args.text.now (vec_items c.args.self.now.names) c.args.terms.now c.args.most c.args.term c.args.self.now.terms c.if-term-terms.false (node_at c.args.terms.now c.args.term).at c.in-Tuple.parts (node_is c.args.terms.now c.args.term (form.Tuple c.in-Tuple.parts) c.if-term-terms.false c.in-Tuple.is) c.numbers.new.self.terms c.in_err-parts.field-0.0 c.in_err-parts.ensures.reads })
+pub number-returns-in_err-parts-in-Tuple : goal.number-returns-in_err-parts-in-Tuple
+number-returns-in_err-parts-in-Tuple t c =
+    let p = err_from_is_err_and c.from_residual-in_err-parts-in-Tuple.result c.from_residual-in_err-parts-in-Tuple.ensures.1 in
+    rw (p.1, p.2) (record { within = tt; same = record { names = c.numbers.ensures.same.names; functions = c.numbers.ensures.same.functions; parameters = c.numbers.ensures.same.parameters; starts = c.numbers.ensures.same.starts; rights = c.numbers.ensures.same.rights }; reads = tuple_parts_refused c.args.text.now (vec_items c.args.self.now.names) c.args.terms.now c.args.most c.args.term c.args.self.now.terms c.if-term-terms.false (node_at c.args.terms.now c.args.term).at c.in-Tuple.parts (node_is c.args.terms.now c.args.term (form.Tuple c.in-Tuple.parts) c.if-term-terms.false c.in-Tuple.is) c.numbers.new.self.terms c.in_err-parts-in-Tuple.field-0.0 c.in_err-parts-in-Tuple.ensures.reads })
 
-pub number-returns-in_err-number-3 : goal.number-returns-in_err-number-3
-number-returns-in_err-number-3 t c =
-    let p = err_from_is_err_and c.from_residual-in_err-number-3.result c.from_residual-in_err-number-3.ensures.1 in
-    rw (p.1, p.2) (record { within = tt; same = record { names = c.numbers.ensures.same.names; functions = c.numbers.ensures.same.functions; parameters = c.numbers.ensures.same.parameters; starts = c.numbers.ensures.same.starts; rights = c.numbers.ensures.same.rights }; reads = tuple_refused c.args.text.now (vec_items c.args.self.now.names) c.args.terms.now c.args.most c.args.term c.args.self.now.terms c.if-term-terms.false (node_at c.args.terms.now c.args.term).at c.in-Tuple.parts (node_is c.args.terms.now c.args.term (form.Tuple c.in-Tuple.parts) c.if-term-terms.false c.in-Tuple.is) c.numbers.new.self.terms c.compound-in-Tuple.new.self c.in_ok-parts.parts c.in_ok-parts.ensures.within.0 c.in_ok-parts.end c.in_ok-parts.ensures.reads c.as_slice.result.now c.as_slice.ensures.value c.in_err-number-3.field-0.0 c.in_err-number-3.ensures })
+pub number-returns-in_err-number-in-Tuple : goal.number-returns-in_err-number-in-Tuple
+number-returns-in_err-number-in-Tuple t c =
+    let p = err_from_is_err_and c.from_residual-in_err-number-in-Tuple.result c.from_residual-in_err-number-in-Tuple.ensures.1 in
+    rw (p.1, p.2) (record { within = tt; same = record { names = c.numbers.ensures.same.names; functions = c.numbers.ensures.same.functions; parameters = c.numbers.ensures.same.parameters; starts = c.numbers.ensures.same.starts; rights = c.numbers.ensures.same.rights }; reads = tuple_refused c.args.text.now (vec_items c.args.self.now.names) c.args.terms.now c.args.most c.args.term c.args.self.now.terms c.if-term-terms.false (node_at c.args.terms.now c.args.term).at c.in-Tuple.parts (node_is c.args.terms.now c.args.term (form.Tuple c.in-Tuple.parts) c.if-term-terms.false c.in-Tuple.is) c.numbers.new.self.terms c.compound-in-Tuple.new.self c.in_ok-parts-in-Tuple.parts c.in_ok-parts-in-Tuple.ensures.within.0 c.in_ok-parts-in-Tuple.end c.in_ok-parts-in-Tuple.ensures.reads c.as_slice.result.now c.as_slice.ensures.value c.in_err-number-in-Tuple.field-0.0 c.in_err-number-in-Tuple.ensures })
 
 pub number-returns-in_default-function_of : goal.number-returns-in_default-function_of
 number-returns-in_default-function_of t c = record {
@@ -58,65 +58,65 @@ number-returns-in_default-function_of t c = record {
   reads = no_function c.args.text.now (vec_items c.args.self.now.names) c.args.terms.now c.args.most c.args.term c.args.self.now.terms c.if-term-terms.false (node_at c.args.terms.now c.args.term).at c.in-Apply.function c.in-Apply.parts (node_is c.args.terms.now c.args.term (form.Apply c.in-Apply.function c.in-Apply.parts) c.if-term-terms.false c.in-Apply.is) c.args.self.now.terms (Err (WrongType c.in-Apply.function.at)) (λ g. no_function_from (meaning_of c.args.text.now (vec_items c.args.self.now.names) c.in-Apply.function.part) g c.in_default-function_of.ensures);
 }
 
-pub number-returns-in_err-parts-2 : goal.number-returns-in_err-parts-2
-number-returns-in_err-parts-2 t c =
-    let p = err_from_is_err_and c.from_residual-in_err-parts-2.result c.from_residual-in_err-parts-2.ensures.1 in
-    rw (p.1, p.2) (record { within = tt; same = record { names = c.numbers-in-Apply.ensures.same.names; functions = c.numbers-in-Apply.ensures.same.functions; parameters = c.numbers-in-Apply.ensures.same.parameters; starts = c.numbers-in-Apply.ensures.same.starts; rights = c.numbers-in-Apply.ensures.same.rights }; reads = apply_parts_refused c.args.text.now (vec_items c.args.self.now.names) c.args.terms.now c.args.most c.args.term c.args.self.now.terms c.if-term-terms.false (node_at c.args.terms.now c.args.term).at c.in-Apply.function c.in-Apply.parts (node_is c.args.terms.now c.args.term (form.Apply c.in-Apply.function c.in-Apply.parts) c.if-term-terms.false c.in-Apply.is) c.numbers-in-Apply.new.self.terms c.in_err-parts-2.field-0.0 c.in_err-parts-2.ensures.reads })
+pub number-returns-in_err-parts-in-Apply : goal.number-returns-in_err-parts-in-Apply
+number-returns-in_err-parts-in-Apply t c =
+    let p = err_from_is_err_and c.from_residual-in_err-parts-in-Apply.result c.from_residual-in_err-parts-in-Apply.ensures.1 in
+    rw (p.1, p.2) (record { within = tt; same = record { names = c.numbers-in-Apply.ensures.same.names; functions = c.numbers-in-Apply.ensures.same.functions; parameters = c.numbers-in-Apply.ensures.same.parameters; starts = c.numbers-in-Apply.ensures.same.starts; rights = c.numbers-in-Apply.ensures.same.rights }; reads = apply_parts_refused c.args.text.now (vec_items c.args.self.now.names) c.args.terms.now c.args.most c.args.term c.args.self.now.terms c.if-term-terms.false (node_at c.args.terms.now c.args.term).at c.in-Apply.function c.in-Apply.parts (node_is c.args.terms.now c.args.term (form.Apply c.in-Apply.function c.in-Apply.parts) c.if-term-terms.false c.in-Apply.is) c.numbers-in-Apply.new.self.terms c.in_err-parts-in-Apply.field-0.0 c.in_err-parts-in-Apply.ensures.reads })
 
-pub number-returns-in_err-number-4 : goal.number-returns-in_err-number-4
-number-returns-in_err-number-4 t c =
-    let p = err_from_is_err_and c.from_residual-in_err-number-4.result c.from_residual-in_err-number-4.ensures.1 in
-    rw (p.1, p.2) (record { within = tt; same = record { names = c.numbers-in-Apply.ensures.same.names; functions = c.numbers-in-Apply.ensures.same.functions; parameters = c.numbers-in-Apply.ensures.same.parameters; starts = c.numbers-in-Apply.ensures.same.starts; rights = c.numbers-in-Apply.ensures.same.rights }; reads = apply_refused c.args.text.now (vec_items c.args.self.now.names) c.args.terms.now c.args.most c.args.term c.args.self.now.terms c.if-term-terms.false (node_at c.args.terms.now c.args.term).at c.in-Apply.function c.in-Apply.parts (node_is c.args.terms.now c.args.term (form.Apply c.in-Apply.function c.in-Apply.parts) c.if-term-terms.false c.in-Apply.is) c.numbers-in-Apply.new.self.terms c.in-Some-function_of.function (function_from (meaning_of c.args.text.now (vec_items c.args.self.now.names) c.in-Apply.function.part) c.in-Some-function_of.function c.in-Some-function_of.ensures) c.compound-in-Apply.new.self c.in_ok-parts-2.parts c.in_ok-parts-2.ensures.within.0 c.in_ok-parts-2.end c.in_ok-parts-2.ensures.reads c.as_slice-in-Apply.result.now c.as_slice-in-Apply.ensures.value c.in_err-number-4.field-0.0 c.in_err-number-4.ensures })
+pub number-returns-in_err-number-in-Apply : goal.number-returns-in_err-number-in-Apply
+number-returns-in_err-number-in-Apply t c =
+    let p = err_from_is_err_and c.from_residual-in_err-number-in-Apply.result c.from_residual-in_err-number-in-Apply.ensures.1 in
+    rw (p.1, p.2) (record { within = tt; same = record { names = c.numbers-in-Apply.ensures.same.names; functions = c.numbers-in-Apply.ensures.same.functions; parameters = c.numbers-in-Apply.ensures.same.parameters; starts = c.numbers-in-Apply.ensures.same.starts; rights = c.numbers-in-Apply.ensures.same.rights }; reads = apply_refused c.args.text.now (vec_items c.args.self.now.names) c.args.terms.now c.args.most c.args.term c.args.self.now.terms c.if-term-terms.false (node_at c.args.terms.now c.args.term).at c.in-Apply.function c.in-Apply.parts (node_is c.args.terms.now c.args.term (form.Apply c.in-Apply.function c.in-Apply.parts) c.if-term-terms.false c.in-Apply.is) c.numbers-in-Apply.new.self.terms c.in-Some-function_of.function (function_from (meaning_of c.args.text.now (vec_items c.args.self.now.names) c.in-Apply.function.part) c.in-Some-function_of.function c.in-Some-function_of.ensures) c.compound-in-Apply.new.self c.in_ok-parts-in-Apply.parts c.in_ok-parts-in-Apply.ensures.within.0 c.in_ok-parts-in-Apply.end c.in_ok-parts-in-Apply.ensures.reads c.as_slice-in-Apply.result.now c.as_slice-in-Apply.ensures.value c.in_err-number-in-Apply.field-0.0 c.in_err-number-in-Apply.ensures })
 
-pub number-returns-in_ok-number : goal.number-returns-in_ok-number
-number-returns-in_ok-number t c = record {
+pub number-returns-in_ok-number-in-Name : goal.number-returns-in_ok-number-in-Name
+number-returns-in_ok-number-in-Name t c = record {
   within = (
-    number_within c.args.self.now.terms c.name.new.self _ _ c.in_ok-number.ensures.0,
+    number_within c.args.self.now.terms c.name.new.self _ _ c.in_ok-number-in-Name.ensures.0,
     omega arith,
-    grows_numbered c.args.self.now.terms c.name.new.self _ _ c.in_ok-number.ensures.0,
+    grows_numbered c.args.self.now.terms c.name.new.self _ _ c.in_ok-number-in-Name.ensures.0,
   );
   same = record { names = refl; functions = refl; parameters = refl; starts = refl; rights = refl };
-  reads = name_read c.args.text.now (vec_items c.args.self.now.names) c.args.terms.now c.args.most c.args.term c.args.self.now.terms c.if-term-terms.false (node_at c.args.terms.now c.args.term).at c.in-Name.name (node_is c.args.terms.now c.args.term (form.Name c.in-Name.name) c.if-term-terms.false c.in-Name.is) c.name.new.self c.in-Some.name c.in-Some.ensures c.in_ok-number.number c.in_ok-number.ensures;
+  reads = name_read c.args.text.now (vec_items c.args.self.now.names) c.args.terms.now c.args.most c.args.term c.args.self.now.terms c.if-term-terms.false (node_at c.args.terms.now c.args.term).at c.in-Name.name (node_is c.args.terms.now c.args.term (form.Name c.in-Name.name) c.if-term-terms.false c.in-Name.is) c.name.new.self c.in-Some.name c.in-Some.ensures c.in_ok-number-in-Name.number c.in_ok-number-in-Name.ensures;
 }
 
-pub number-returns-in_ok-number-2 : goal.number-returns-in_ok-number-2
-number-returns-in_ok-number-2 t c =
-    let a = c.in_ok-text_number.ensures.within in
-    let b = c.in_ok-key_number.ensures.within in
+pub number-returns-in_ok-number-in-Crypt : goal.number-returns-in_ok-number-in-Crypt
+number-returns-in_ok-number-in-Crypt t c =
+    let a = c.in_ok-text_number-in-Crypt.ensures.within in
+    let b = c.in_ok-key_number-in-Crypt.ensures.within in
     record {
       within = (
-        number_within c.number-in-Crypt.new.self.terms c.compound.new.self _ _ c.in_ok-number-2.ensures.0,
+        number_within c.number-in-Crypt.new.self.terms c.compound.new.self _ _ c.in_ok-number-in-Crypt.ensures.0,
         omega (arith, a.1, b.1),
-        grows_on c.args.self.now.terms c.number-in-Crypt.new.self.terms c.compound.new.self (grows_on c.args.self.now.terms c.number.new.self.terms c.number-in-Crypt.new.self.terms a.2 b.2) (grows_numbered c.number-in-Crypt.new.self.terms c.compound.new.self _ _ c.in_ok-number-2.ensures.0),
+        grows_on c.args.self.now.terms c.number-in-Crypt.new.self.terms c.compound.new.self (grows_on c.args.self.now.terms c.number.new.self.terms c.number-in-Crypt.new.self.terms a.2 b.2) (grows_numbered c.number-in-Crypt.new.self.terms c.compound.new.self _ _ c.in_ok-number-in-Crypt.ensures.0),
       );
-      same = record { names = (same_on c.args.self.now c.number.new.self c.number-in-Crypt.new.self c.in_ok-text_number.ensures.same c.number-in-Crypt.ensures.same).names; functions = (same_on c.args.self.now c.number.new.self c.number-in-Crypt.new.self c.in_ok-text_number.ensures.same c.number-in-Crypt.ensures.same).functions; parameters = (same_on c.args.self.now c.number.new.self c.number-in-Crypt.new.self c.in_ok-text_number.ensures.same c.number-in-Crypt.ensures.same).parameters; starts = (same_on c.args.self.now c.number.new.self c.number-in-Crypt.new.self c.in_ok-text_number.ensures.same c.number-in-Crypt.ensures.same).starts; rights = (same_on c.args.self.now c.number.new.self c.number-in-Crypt.new.self c.in_ok-text_number.ensures.same c.number-in-Crypt.ensures.same).rights };
-      reads = crypt_read c.args.text.now (vec_items c.args.self.now.names) c.args.terms.now c.args.most c.args.term c.args.self.now.terms c.if-term-terms.false (node_at c.args.terms.now c.args.term).at (node_is c.args.terms.now c.args.term (form.Crypt) c.if-term-terms.false c.in-Crypt.is) c.number.new.self.terms c.in_ok-text_number.text_number c.in_ok-text_number.key c.in_ok-text_number.ensures.reads c.number-in-Crypt.new.self.terms c.in_ok-key_number.key_number c.in_ok-key_number.end (subst (λ ns. Reads c.args.text.now (vec_items ns) c.number.new.self.terms c.number-in-Crypt.new.self.terms c.args.terms.now c.args.most c.in_ok-text_number.key (Ok (c.in_ok-key_number.key_number, c.in_ok-key_number.end))) c.in_ok-text_number.ensures.same.names c.in_ok-key_number.ensures.reads) c.in_ok-key_number.ensures.within.2 c.in_ok-text_number.ensures.within.0 c.in_ok-key_number.ensures.within.0 c.compound.new.self c.in_ok-number-2.number c.in_ok-number-2.ensures;
+      same = record { names = (same_on c.args.self.now c.number.new.self c.number-in-Crypt.new.self c.in_ok-text_number-in-Crypt.ensures.same c.number-in-Crypt.ensures.same).names; functions = (same_on c.args.self.now c.number.new.self c.number-in-Crypt.new.self c.in_ok-text_number-in-Crypt.ensures.same c.number-in-Crypt.ensures.same).functions; parameters = (same_on c.args.self.now c.number.new.self c.number-in-Crypt.new.self c.in_ok-text_number-in-Crypt.ensures.same c.number-in-Crypt.ensures.same).parameters; starts = (same_on c.args.self.now c.number.new.self c.number-in-Crypt.new.self c.in_ok-text_number-in-Crypt.ensures.same c.number-in-Crypt.ensures.same).starts; rights = (same_on c.args.self.now c.number.new.self c.number-in-Crypt.new.self c.in_ok-text_number-in-Crypt.ensures.same c.number-in-Crypt.ensures.same).rights };
+      reads = crypt_read c.args.text.now (vec_items c.args.self.now.names) c.args.terms.now c.args.most c.args.term c.args.self.now.terms c.if-term-terms.false (node_at c.args.terms.now c.args.term).at (node_is c.args.terms.now c.args.term (form.Crypt) c.if-term-terms.false c.in-Crypt.is) c.number.new.self.terms c.in_ok-text_number-in-Crypt.text_number c.in_ok-text_number-in-Crypt.key c.in_ok-text_number-in-Crypt.ensures.reads c.number-in-Crypt.new.self.terms c.in_ok-key_number-in-Crypt.key_number c.in_ok-key_number-in-Crypt.end (subst (λ ns. Reads c.args.text.now (vec_items ns) c.number.new.self.terms c.number-in-Crypt.new.self.terms c.args.terms.now c.args.most c.in_ok-text_number-in-Crypt.key (Ok (c.in_ok-key_number-in-Crypt.key_number, c.in_ok-key_number-in-Crypt.end))) c.in_ok-text_number-in-Crypt.ensures.same.names c.in_ok-key_number-in-Crypt.ensures.reads) c.in_ok-key_number-in-Crypt.ensures.within.2 c.in_ok-text_number-in-Crypt.ensures.within.0 c.in_ok-key_number-in-Crypt.ensures.within.0 c.compound.new.self c.in_ok-number-in-Crypt.number c.in_ok-number-in-Crypt.ensures;
     }
 
-pub number-returns-in_ok-number-3 : goal.number-returns-in_ok-number-3
-number-returns-in_ok-number-3 t c =
-    let a = c.in_ok-parts.ensures.within in
+pub number-returns-in_ok-number-in-Tuple : goal.number-returns-in_ok-number-in-Tuple
+number-returns-in_ok-number-in-Tuple t c =
+    let a = c.in_ok-parts-in-Tuple.ensures.within in
     record {
       within = (
-        number_within c.numbers.new.self.terms c.compound-in-Tuple.new.self _ _ c.in_ok-number-3.ensures.0,
+        number_within c.numbers.new.self.terms c.compound-in-Tuple.new.self _ _ c.in_ok-number-in-Tuple.ensures.0,
         omega (arith, a.1),
-        grows_on c.args.self.now.terms c.numbers.new.self.terms c.compound-in-Tuple.new.self a.2 (grows_numbered c.numbers.new.self.terms c.compound-in-Tuple.new.self _ _ c.in_ok-number-3.ensures.0),
+        grows_on c.args.self.now.terms c.numbers.new.self.terms c.compound-in-Tuple.new.self a.2 (grows_numbered c.numbers.new.self.terms c.compound-in-Tuple.new.self _ _ c.in_ok-number-in-Tuple.ensures.0),
       );
       same = record { names = c.numbers.ensures.same.names; functions = c.numbers.ensures.same.functions; parameters = c.numbers.ensures.same.parameters; starts = c.numbers.ensures.same.starts; rights = c.numbers.ensures.same.rights };
-      reads = tuple_read c.args.text.now (vec_items c.args.self.now.names) c.args.terms.now c.args.most c.args.term c.args.self.now.terms c.if-term-terms.false (node_at c.args.terms.now c.args.term).at c.in-Tuple.parts (node_is c.args.terms.now c.args.term (form.Tuple c.in-Tuple.parts) c.if-term-terms.false c.in-Tuple.is) c.numbers.new.self.terms c.compound-in-Tuple.new.self c.in_ok-parts.parts c.in_ok-parts.ensures.within.0 c.in_ok-parts.end c.in_ok-parts.ensures.reads c.as_slice.result.now c.as_slice.ensures.value c.in_ok-number-3.number c.in_ok-number-3.ensures;
+      reads = tuple_read c.args.text.now (vec_items c.args.self.now.names) c.args.terms.now c.args.most c.args.term c.args.self.now.terms c.if-term-terms.false (node_at c.args.terms.now c.args.term).at c.in-Tuple.parts (node_is c.args.terms.now c.args.term (form.Tuple c.in-Tuple.parts) c.if-term-terms.false c.in-Tuple.is) c.numbers.new.self.terms c.compound-in-Tuple.new.self c.in_ok-parts-in-Tuple.parts c.in_ok-parts-in-Tuple.ensures.within.0 c.in_ok-parts-in-Tuple.end c.in_ok-parts-in-Tuple.ensures.reads c.as_slice.result.now c.as_slice.ensures.value c.in_ok-number-in-Tuple.number c.in_ok-number-in-Tuple.ensures;
     }
 
-pub number-returns-in_ok-number-4 : goal.number-returns-in_ok-number-4
-number-returns-in_ok-number-4 t c =
-    let a = c.in_ok-parts-2.ensures.within in
+pub number-returns-in_ok-number-in-Apply : goal.number-returns-in_ok-number-in-Apply
+number-returns-in_ok-number-in-Apply t c =
+    let a = c.in_ok-parts-in-Apply.ensures.within in
     record {
       within = (
-        number_within c.numbers-in-Apply.new.self.terms c.compound-in-Apply.new.self _ _ c.in_ok-number-4.ensures.0,
+        number_within c.numbers-in-Apply.new.self.terms c.compound-in-Apply.new.self _ _ c.in_ok-number-in-Apply.ensures.0,
         omega (arith, a.1),
-        grows_on c.args.self.now.terms c.numbers-in-Apply.new.self.terms c.compound-in-Apply.new.self a.2 (grows_numbered c.numbers-in-Apply.new.self.terms c.compound-in-Apply.new.self _ _ c.in_ok-number-4.ensures.0),
+        grows_on c.args.self.now.terms c.numbers-in-Apply.new.self.terms c.compound-in-Apply.new.self a.2 (grows_numbered c.numbers-in-Apply.new.self.terms c.compound-in-Apply.new.self _ _ c.in_ok-number-in-Apply.ensures.0),
       );
       same = record { names = c.numbers-in-Apply.ensures.same.names; functions = c.numbers-in-Apply.ensures.same.functions; parameters = c.numbers-in-Apply.ensures.same.parameters; starts = c.numbers-in-Apply.ensures.same.starts; rights = c.numbers-in-Apply.ensures.same.rights };
-      reads = apply_read c.args.text.now (vec_items c.args.self.now.names) c.args.terms.now c.args.most c.args.term c.args.self.now.terms c.if-term-terms.false (node_at c.args.terms.now c.args.term).at c.in-Apply.function c.in-Apply.parts (node_is c.args.terms.now c.args.term (form.Apply c.in-Apply.function c.in-Apply.parts) c.if-term-terms.false c.in-Apply.is) c.numbers-in-Apply.new.self.terms c.in-Some-function_of.function (function_from (meaning_of c.args.text.now (vec_items c.args.self.now.names) c.in-Apply.function.part) c.in-Some-function_of.function c.in-Some-function_of.ensures) c.compound-in-Apply.new.self c.in_ok-parts-2.parts c.in_ok-parts-2.ensures.within.0 c.in_ok-parts-2.end c.in_ok-parts-2.ensures.reads c.as_slice-in-Apply.result.now c.as_slice-in-Apply.ensures.value c.in_ok-number-4.number c.in_ok-number-4.ensures;
+      reads = apply_read c.args.text.now (vec_items c.args.self.now.names) c.args.terms.now c.args.most c.args.term c.args.self.now.terms c.if-term-terms.false (node_at c.args.terms.now c.args.term).at c.in-Apply.function c.in-Apply.parts (node_is c.args.terms.now c.args.term (form.Apply c.in-Apply.function c.in-Apply.parts) c.if-term-terms.false c.in-Apply.is) c.numbers-in-Apply.new.self.terms c.in-Some-function_of.function (function_from (meaning_of c.args.text.now (vec_items c.args.self.now.names) c.in-Apply.function.part) c.in-Some-function_of.function c.in-Some-function_of.ensures) c.compound-in-Apply.new.self c.in_ok-parts-in-Apply.parts c.in_ok-parts-in-Apply.ensures.within.0 c.in_ok-parts-in-Apply.end c.in_ok-parts-in-Apply.ensures.reads c.as_slice-in-Apply.result.now c.as_slice-in-Apply.ensures.value c.in_ok-number-in-Apply.number c.in_ok-number-in-Apply.ensures;
     }
 
 pub numbers-returns-in_err-part : goal.numbers-returns-in_err-part

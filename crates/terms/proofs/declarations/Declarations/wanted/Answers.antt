@@ -19,7 +19,7 @@ returns c =
     let a = c.saturating_add-at.ensures in
     let b = c.len.ensures in
     let h = c.if-at-len.false in
-    let k = c.len.type-inv in
+    let k = c.len.type_inv in
     let l = c.args.self.now.parameters.ok.0 in
     let q : c.saturating_add-at.result ≡ c.in-Some.function.first + c.args.number = omega arith in
     get_or_read (vec_items c.args.self.now.parameters) c.saturating_add-at.result _ (omega arith) c.index.ensures Number
