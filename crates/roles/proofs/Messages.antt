@@ -1,5 +1,6 @@
 -- A message with its terms: what is left to do of it, and what its sender and its receiver do.
 use Rattle.std.proofs.Common.{◌≡◌, ℕ, zero, suc, ◌<◌, min, List, [], ◌∷◌, ◌++◌, map, length, get_or, drop, set, Ok, Err, vec_items, Result, sym, refl, ap, ◌∙◌}
+use Rattle.model.specs.Trees.{Tree}
 use Rattle.syntax.specs.declared.spec.TermNode.{TermNode}
 use Rattle.syntax.specs.Places.{place_of}
 use Rattle.syntax.specs.Specs.{Term, name, tuple, crypt, apply, nodes}
@@ -38,7 +39,7 @@ drop_places [] (suc k) = refl
 drop_places (x ∷ xs) (suc k) = drop_places xs k
 
 first_place : (t : Term) (rest : List TermNode) → place_of (nodes t ++ rest) 0 ≡ term_place t
-  unfolding nodes
+unfolding nodes
 first_place (name at p) rest = refl
 first_place (tuple at ts) rest = refl
 first_place (crypt at t k) rest = refl
@@ -67,7 +68,14 @@ module _ (limits : Limits) (text : List ℕ) (number : ℕ) (t : Term) (i j : �
     received ps = bind (change j receiving ps) (λ qs. Ok (record { scope = V; players = qs }))
 
     with_terms : message limits text number t i j stage ≡ bind (change i sending (map (player_of after) rs)) received
-    with_terms = rw (w, here, those, that, same_players before after grows rs fits)
+    with_terms = rw w (sym (ap (λ a. both a made (tree_in after k) (map (player_of after) rs)) here
+        ∙ ap (λ m. both (term_place t) m (tree_in after k) (map (player_of after) rs)) those
+        ∙ ap (λ x. both (term_place t) (made_among V.names (drop (length U.terms) V.terms)) x (map (player_of after) rs)) that
+        ∙ ap (both (term_place t) (made_among V.names (drop (length U.terms) V.terms)) (tree text U.names t)) (same_players before after grows rs fits)))
+      where
+        both : ℕ → List ℕ → Tree → List Player → Result Stage LineFault
+        both a m x ps =
+            bind (change i (says limits number a V.terms (makes_of m) x) ps) (λ qs. bind (change j (hears limits number a x) qs) (λ us. Ok (record { scope = V; players = us })))
 
     module _ (si : i < length rs) (r r' : Role) (ri : r ≡ get_or rs i r) where
       pub say_refused : (e : LineFault) → Plays after (sending (player_of after r)) r' (Err e) → Refused (message limits text number t i j stage) e

@@ -28,7 +28,7 @@ impl RoleState {
     fn known_terms(&self, count: usize) -> Result<Vec<bool>, Fault>
         ensures { MatchResult result (λ v. MarksKnown count self.now v.items) (λ e. e ≡ NoMemory) }
     {
-        let mut known = vec![in self.known.allocator(); false; count]?;
+        let mut known = vec![in *self.known.allocator(); false; count]?;
         for held in self.known.as_slice() {
             let term = held.term as usize;
             if term < count {

@@ -79,7 +79,7 @@ impl Role {
     ) -> Result<(), LineFault>
         requires { (term < size table.now) × (Fit table.now self.old.party self.old.state) }
         ensures fits { Keeps table.now self.new.party self.new.state result }
-        ensures plays { (us : List Tree) → Lists table.now us → Plays table.now (says limits line at us (makes_of IfOk.entry.now) (tree_in table.now term) (player_of table.now self.old)) self.new result }
+        ensures plays { (us : List Tree) → Lists table.now us → Plays table.now (says limits line at us (makes_of made.now) (tree_in table.now term) (player_of table.now self.old)) self.new result }
     {
         match self.state.say(table, &self.party, made, term) {
             Ok(()) => self.end_line(line, at, limits),

@@ -6,18 +6,18 @@ use Rattle.roles.proofs.Played.{kept}
 use Rattle.roles.proofs.Begun.{begun}
 use Rattle.roles.proofs.role.Role.start.Goals as goal
 
-pub returns-in_err-end_line : goal.returns-in_err-end_line
-returns-in_err-end_line c =
+pub returns-in_err-end_line-in-Ok : goal.returns-in_err-end_line-in-Ok
+returns-in_err-end_line-in-Ok c =
     let t = c.args.declarations.now.terms in
     let e = c.in-Ok.ensures in
     let r : Role = record { name = c.args.number; part = c.args.name.part; rows = c.new.result; party = c.in_ok-party.party; state = c.new-2.result } in
-    let p = err_from_is_err_and c.from_residual-in_err-end_line.result c.from_residual-in_err-end_line.ensures.1 in record {
+    let p = err_from_is_err_and c.from_residual-in_err-end_line-in-Ok.result c.from_residual-in_err-end_line-in-Ok.ensures.1 in record {
       fits = rw p.1 tt;
       starts = λ S m.
           rw (p.1, p.2)
           (begun t c.args.limits S c.args.number c.args.name r refl refl c.new.ensures.items (c.in_ok-party.ensures.functions S m)
           c.as_slice.result.now (ap (map (tree_in t)) c.as_slice.ensures.value ∙ c.in_ok-terms.ensures.given S m)
-          c.start.new.self tt e c.end_line.new.self (Err c.in_err-end_line.field-0.0) c.end_line.ensures.rest c.in_err-end_line.ensures.ends);
+          c.start.new.self tt e c.end_line.new.self (Err c.in_err-end_line-in-Ok.field-0.0) c.end_line.ensures.rest c.in_err-end_line-in-Ok.ensures.ends);
     }
 
 pub returns-in-Ok : goal.returns-in-Ok
@@ -29,5 +29,5 @@ returns-in-Ok c =
       starts = λ S m.
           begun t c.args.limits S c.args.number c.args.name r refl refl c.new.ensures.items (c.in_ok-party.ensures.functions S m)
           c.as_slice.result.now (ap (map (tree_in t)) c.as_slice.ensures.value ∙ c.in_ok-terms.ensures.given S m)
-          c.start.new.self tt e c.end_line.new.self (Ok tt) c.end_line.ensures.rest c.in_ok-end_line.ensures.ends;
+          c.start.new.self tt e c.end_line.new.self (Ok tt) c.end_line.ensures.rest c.in_ok-end_line-in-Ok.ensures.ends;
     }

@@ -6,8 +6,8 @@ use Rattle.roles.proofs.Built.{more_parts, longer_parts}
 use mathlib.Core.Path.{subst⁻¹}
 use Rattle.roles.proofs.state.RoleState.+compose_parts_compose_term.Goals as goal
 
-pub compose_parts_compose_term-requires : goal.compose_parts_compose_term-requires
-compose_parts_compose_term-requires t c =
+pub compose_parts-compose_term-requires : goal.compose_parts-compose_term-requires
+compose_parts-compose_term-requires t c =
     let b = below_at c.args.whole c.args.parts.now c.loop-part.part-index c.requires.1.1.0 c.loop-part-test.true in
     let m = c.decreases in
     (omega arith, (omega (arith, c.requires.0), c.loop-part.invariant.1))
@@ -64,16 +64,16 @@ compose_term-returns-then-not-may_make t c =
     not_allowed c.args.table.now c.args.self.now c.args.term c.requires.0 c.requires.1 c.args.party.now c.args.made.now c.in_default.ensures.number
     c.in-Compound.kind c.in-Compound.parts (c.in-Compound.ensures.stands c.requires.0) c.if-not-may_make.ensures
 
-pub compose_term-returns-in_err-parts : goal.compose_term-returns-in_err-parts
-compose_term-returns-in_err-parts t c =
+pub compose_term-returns-in_err-parts-in-Compound : goal.compose_term-returns-in_err-parts-in-Compound
+compose_term-returns-in_err-parts-in-Compound t c =
     let p = err_from_is_err_and c.from_residual.result c.from_residual.ensures.1 in
     rw (p.1, p.2)
     (part_lacking c.args.table.now c.args.self.now c.args.term c.requires.0 c.requires.1 c.args.party.now c.args.made.now c.in_default.ensures.number
     c.in-Compound.kind c.in-Compound.parts (c.in-Compound.ensures.stands c.requires.0) c.if-not-may_make.ensures
-    c.as_slice.result.now c.as_slice.ensures.value c.compose_parts.new.self c.in_err-parts.field-0.0 c.in_err-parts.ensures)
+    c.as_slice.result.now c.as_slice.ensures.value c.compose_parts.new.self c.in_err-parts-in-Compound.field-0.0 c.in_err-parts-in-Compound.ensures)
 
-pub compose_term-returns-in_ok-parts : goal.compose_term-returns-in_ok-parts
-compose_term-returns-in_ok-parts t c =
+pub compose_term-returns-in_ok-parts-in-Compound : goal.compose_term-returns-in_ok-parts-in-Compound
+compose_term-returns-in_ok-parts-in-Compound t c =
     compound_filled c.args.table.now c.args.self.now c.args.term c.requires.0 c.requires.1 c.args.party.now c.args.made.now c.in_default.ensures.number
     c.in-Compound.kind c.in-Compound.parts (c.in-Compound.ensures.stands c.requires.0) c.if-not-may_make.ensures
-    c.as_slice.result.now c.as_slice.ensures.value c.compose_parts.new.self c.fill-in-Compound.new.self c.in_ok-parts.parts c.fill-in-Compound.result c.build.result c.build.ensures c.in_ok-parts.ensures c.fill-in-Compound.ensures
+    c.as_slice.result.now c.as_slice.ensures.value c.compose_parts.new.self c.fill-in-Compound.new.self c.in_ok-parts-in-Compound.parts c.fill-in-Compound.result c.build.result c.build.ensures c.in_ok-parts-in-Compound.ensures c.fill-in-Compound.ensures

@@ -7,7 +7,7 @@ use Rattle.roles.proofs.state.RoleState.known_terms.Goals as goal
 use Rattle.roles.proofs.state.RoleState.known_terms.Goals.{then-term-count, else-term-count}
 
 pub loop-held-init : goal.loop-held-init
-loop-held-init c = none_marked c.args.count c.as_slice-held-items.result.now _ (c.in_ok-known.ensures.items-if-clones-equal (λ y e. e))
+loop-held-init c = none_marked c.args.count c.as_slice-held-items.result.now _ (c.in_ok-known.ensures.items_if_clones_equal (λ y e. e))
 
 pub loop-held-preserved : goal.loop-held-preserved
 loop-held-preserved c =

@@ -23,22 +23,10 @@ hear-requires c =
           (omega arith) c.index_mut-2.ensures.value,
     )
 
-pub returns-in_err-term : goal.returns-in_err-term
-returns-in_err-term c = ?
-
-pub returns-in_err-made : goal.returns-in_err-made
-returns-in_err-made c = ?
-
-pub returns-in_err-say : goal.returns-in_err-say
-returns-in_err-say c = ?
-
 pub returns : goal.returns
 returns c =
-    let g = c.in_ok-term.ensures in record {
-      keeps =
-          all_keep_set c.term.new.self.terms (set (vec_items c.args.self.now.roles) c.args.sender c.say.new.self) c.args.receiver c.hear.new.self c.hear.result
-          (all_fit_set c.term.new.self.terms (vec_items c.args.self.now.roles) c.args.sender c.say.new.self
-          (all_fit_grows c.args.self.now.declarations.terms c.term.new.self.terms g.1 (vec_items c.args.self.now.roles) c.requires.0) c.in_ok-say.ensures.fits)
-          c.hear.ensures.fits;
-      comes = λ U m t a. ?;
-    }
+    let g = c.in_ok-term.ensures in
+    all_keep_set c.term.new.self.terms (set (vec_items c.args.self.now.roles) c.args.sender c.say.new.self) c.args.receiver c.hear.new.self c.hear.result
+    (all_fit_set c.term.new.self.terms (vec_items c.args.self.now.roles) c.args.sender c.say.new.self
+    (all_fit_grows c.args.self.now.declarations.terms c.term.new.self.terms g.1 (vec_items c.args.self.now.roles) c.requires.0) c.in_ok-say.ensures.fits)
+    c.hear.ensures.fits
