@@ -1,5 +1,5 @@
 -- Roles that fit a table: also a longer one, and after one of them was changed or added.
-use Rattle.std.proofs.Common.{◌≡◌, ℕ, zero, suc, ◌<◌, ◌≤◌, List, [], ◌∷◌, ◌++◌, length, get_or, set, Ok, Err, vec_items, Result, refl, ap, ◌∙◌, subst, ap₂, arith}
+use Rattle.std.proofs.Common.{◌≡◌, ℕ, zero, suc, ◌<◌, ◌≤◌, List, [], ◌∷◌, ◌++◌, length, get_or, set, Ok, Err, vec_items, Result, refl, ap₂, arith}
 use mathlib.Core.Path.{subst⁻¹}
 use Rattle.model.specs.Trees.{Tree}
 use Rattle.model.specs.Keeping.{Kept}
@@ -11,7 +11,6 @@ use Rattle.roles.specs.declared.role.Role.{Role}
 use Rattle.roles.specs.declared.state.Entry.{Entry}
 use Rattle.roles.specs.declared.state.RoleState.{RoleState}
 use Rattle.roles.specs.Parties.{party_of}
-use Rattle.program.specs.Actions.{act_of}
 use Rattle.roles.specs.States.{known_of, role_of, Within}
 use Rattle.roles.specs.Settled.{Any}
 use Rattle.roles.specs.declared.line_fault.LineFault.{LineFault}

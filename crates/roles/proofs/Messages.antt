@@ -23,7 +23,7 @@ use Rattle.roles.specs.Players.{player_of, Plays}
 use Rattle.roles.specs.Playing.{Player, says, hears}
 use Rattle.roles.specs.Refusals.{to_line}
 use Rattle.roles.specs.Stages.{Stage, refused_by, change, term_place, message}
-use Rattle.roles.specs.Staging.{players_of, stage_of, Refused, Comes}
+use Rattle.roles.specs.Staging.{Refused, Comes}
 use Rattle.roles.proofs.Messaging.{refused_through, refused_path, refused_term, refused_play, changed, not_changed, same_players}
 
 -- the place of a term is that of its first node

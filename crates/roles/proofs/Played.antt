@@ -1,5 +1,5 @@
 -- What a role does in a line is what the definition says.
-use Rattle.std.proofs.Common.{◌≡◌, ℕ, zero, suc, ◌<◌, min, Bool, true, false, cond, ◌||◌, T, ltb, List, [], ◌∷◌, ◌++◌, map, length, get_or, drop, Ok, Err, vec_items, Result, sym, refl, ap, ◌∙◌, subst, ap₂, arith}
+use Rattle.std.proofs.Common.{◌≡◌, ℕ, zero, suc, ◌<◌, min, Bool, true, false, cond, ◌||◌, T, ltb, List, [], ◌∷◌, ◌++◌, map, length, get_or, drop, Ok, Err, vec_items, Result, sym, refl, ap, ◌∙◌, arith}
 use mathlib.Core.Path.{subst⁻¹}
 use Rattle.std.proofs.lemmas.List.{length-map, map-append, drop-map}
 use Rattle.model.specs.Trees.{Tree, leaf, eq_tree}
@@ -24,7 +24,7 @@ use Rattle.roles.specs.States.{role_of}
 use Rattle.roles.specs.Filled.{Short}
 use Rattle.roles.specs.Lines.{Says}
 use Rattle.roles.specs.Roles.{Fit, Keeps}
-use Rattle.roles.specs.Playing.{Player, over, ended, hears, says, said_so, term_number}
+use Rattle.roles.specs.Playing.{Player, over, ended, says, said_so, term_number}
 use Rattle.roles.specs.Ended.{row, too_much, refused_as, KeepsRest, Ends}
 use Rattle.roles.specs.Players.{lined, player_of, Plays}
 

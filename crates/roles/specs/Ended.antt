@@ -1,5 +1,5 @@
 -- How a line of a role ends.
-use Rattle.std.specs.Prelude.{◌≡◌, ℕ, min, Bool, true, false, ◌||◌, List, ◌++◌, map, length, drop, Ok, Err, vec_items, Result, nat_lt}
+use Rattle.std.specs.Prelude.{◌≡◌, ℕ, min, Bool, true, false, ◌||◌, ◌++◌, map, length, drop, Ok, Err, vec_items, Result, nat_lt}
 use Rattle.program.specs.declared.action.Action.{Action}
 use Rattle.program.specs.declared.action.Row.{Row}
 use Rattle.terms.specs.declared.limits.Limits.{Limits}

@@ -1,5 +1,5 @@
 -- Labels are used once. They are compared by value: numbers as numbers, names by their bytes.
-use Rattle.std.specs.Prelude.{ℕ, Bool, true, false, cond, List, [], ◌∷◌, Ok, Err, Result, ◌==◌}
+use Rattle.std.specs.Prelude.{ℕ, Bool, false, cond, List, [], ◌∷◌, Ok, Err, Result, ◌==◌}
 use Rattle.syntax.specs.declared.spec.Label.{Label}
 use Rattle.syntax.specs.declared.spec.Label.TheVariants.{Number, Name}
 use Rattle.syntax.specs.declared.spec.Line.{Line}

@@ -1,5 +1,5 @@
 -- What the code's roles are to the definitions.
-use Rattle.std.specs.Prelude.{◌≡◌, ℕ, ◌<◌, List, map, Ok, Err, vec_items, Result}
+use Rattle.std.specs.Prelude.{◌≡◌, ℕ, map, Ok, Err, vec_items, Result}
 use Rattle.model.specs.Roles.{Act}
 use Rattle.program.specs.declared.action.Row.{Row}
 use Rattle.program.specs.Actions.{act_of}

@@ -1,5 +1,5 @@
 -- What each role does in a line: the role's program so far, as the model has it, with the rows that are its own.
-use Rattle.std.specs.Prelude.{ℕ, zero, suc, min, Bool, true, false, cond, ◌||◌, List, [], ◌∷◌, ◌++◌, map, length, drop, Ok, Err, Result, nat_lt}
+use Rattle.std.specs.Prelude.{ℕ, zero, suc, min, Bool, cond, ◌||◌, List, [], ◌∷◌, ◌++◌, map, length, drop, Ok, Err, Result, nat_lt}
 use Rattle.text.specs.declared.part.Part.{Part}
 use Rattle.model.specs.Trees.{Tree, eq_tree}
 use Rattle.model.specs.Deduction.{Party}

@@ -1,5 +1,5 @@
 -- The number, the layer and the place of each fault of a translation.
-use Rattle.std.specs.Prelude.{ℕ, None, Option}
+use Rattle.std.specs.Prelude.{None, Option}
 use Rattle.text.specs.declared.fault.Refusal.{Refusal}
 use Rattle.text.specs.Refusals.{refusal_of}
 use Rattle.syntax.specs.Refusals.{refuse, shape_refusal}

@@ -1,5 +1,5 @@
 -- A role's state fits a table of terms: it knows only terms of the table, in order.
-use Rattle.std.specs.Prelude.{List, [], ◌∷◌, Ok, Err, Result}
+use Rattle.std.specs.Prelude.{Ok, Err, Result}
 use Rattle.terms.specs.declared.table.TermTable.{TermTable}
 use Rattle.roles.specs.declared.line_fault.LineFault.{LineFault}
 use Rattle.roles.specs.declared.party.Party.{Party}

@@ -1,15 +1,12 @@
 -- What the code's translations are to the definitions.
 use Rattle.std.specs.Prelude.{◌≡◌, ℕ, ◌<◌, ◌⊎◌, List, ◌++◌, map, length, drop, None, Ok, Err, vec_items, Result}
-use Rattle.syntax.specs.declared.spec.Line.{Line}
 use Rattle.syntax.specs.declared.spec.TermNode.{TermNode}
-use Rattle.syntax.specs.Specs.{Term, Lined, nodes}
-use Rattle.terms.specs.declared.table.TermTable.{TermTable}
+use Rattle.syntax.specs.Specs.{Term, nodes}
 use Rattle.terms.specs.Meanings.{Means}
 use Rattle.terms.specs.Narrow.{Narrow}
 use Rattle.terms.specs.Scope.{Scope}
 use Rattle.roles.specs.declared.line_fault.LineFault.{LineFault}
 use Rattle.roles.specs.declared.line_fault.LineFault.TheVariants.{Limit, Undeclared, WrongType, Repeated, Underivable, NoMemory}
-use Rattle.roles.specs.declared.role.Role.{Role}
 use Rattle.roles.specs.declared.translation.Translation.{Translation}
 use Rattle.roles.specs.declared.translation_fault.TranslationFault.{TranslationFault}
 use Rattle.roles.specs.Players.{player_of}

@@ -1,15 +1,13 @@
 -- Forms that close others: the mark of a ciphertext.
-use Rattle.std.proofs.Common.{◌≡◌, ℕ, Bool, true, false, cond, List, [], ◌∷◌, Ok, Err, codes, Result, sym, refl, ap, ◌∙◌, subst}
-use Prim.Native.String.{String}
+use Rattle.std.proofs.Common.{◌≡◌, ℕ, List, Ok, Err, codes, sym, refl, ◌∙◌}
 use Rattle.text.specs.declared.node.Node.{Node}
-use Rattle.text.specs.Trees.{Tree, quoted, integer, bracket, Trees, none, more}
+use Rattle.text.specs.Trees.{Tree, Trees}
 use Rattle.syntax.specs.declared.fault.ShapeFault.{ShapeFault}
-use Rattle.syntax.specs.declared.fault.ShapeFault.TheVariants.{Limit, Misfit, NotCarried, NoName, NoMemory}
+use Rattle.syntax.specs.declared.fault.ShapeFault.TheVariants.{Misfit}
 use Rattle.syntax.specs.declared.source.Bracket.{Bracket as Opening}
-use Rattle.syntax.specs.declared.symbol.Symbol.{Symbol}
 use Rattle.syntax.specs.declared.symbol.Symbol.TheVariants as symbols
 use Rattle.syntax.specs.Symbols.{symbol, found}
-use Rattle.syntax.specs.Shape.{Shaped, bytes, no_parts, parts_count, vanilla}
+use Rattle.syntax.specs.Shape.{Shaped, bytes, no_parts, vanilla}
 use Rattle.syntax.specs.Seeing.{Opened}
 use Rattle.syntax.specs.Standing.{Fill}
 use Rattle.syntax.proofs.Counts.{counted_to}

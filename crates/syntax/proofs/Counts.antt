@@ -1,17 +1,16 @@
 -- Forms with a fixed count of parts.
-use Rattle.std.proofs.Common.{◌≡◌, ℕ, suc, ◌+◌, ◌<◌, ◌≤◌, Bool, true, false, cond, eqb, leb, List, Ok, Err, Result, sym, refl, ap, ◌∙◌, subst, arith}
+use Rattle.std.proofs.Common.{◌≡◌, ℕ, suc, ◌+◌, ◌<◌, ◌≤◌, cond, eqb, List, Ok, Err, Result, sym, refl, ap, ◌∙◌, arith}
 use Rattle.std.proofs.lemmas.Bool.{le-leb, lt-leb}
 use Rattle.text.specs.declared.node.Node.{Node}
 use Rattle.text.specs.Trees.{Tree, Trees, none, more, size}
 use Rattle.syntax.specs.declared.fault.ShapeFault.{ShapeFault}
-use Rattle.syntax.specs.declared.fault.ShapeFault.TheVariants.{Limit, Misfit, NotCarried, NoName, NoMemory}
-use Rattle.syntax.specs.declared.source.Headed.{Headed}
+use Rattle.syntax.specs.declared.fault.ShapeFault.TheVariants.{Limit, Misfit}
 use Rattle.syntax.specs.declared.source.Parts.{Parts}
 use Rattle.syntax.specs.declared.spec.Name.{Name}
 use Rattle.syntax.specs.Seeing.{Answers, Refuses, HeadedBy, headed}
-use Rattle.syntax.specs.Shape.{Shaped, and_then, parts_count, at_most, a_name, one_part, two_parts, four_parts, five_parts}
-use Rattle.syntax.specs.Standing.{Stands, Stand, Fill}
-use Rattle.syntax.proofs.Answering.{refuses, refuses_path, refused_first, goes_on, answers_path, miscounted, counted_so}
+use Rattle.syntax.specs.Shape.{Shaped, and_then, parts_count, a_name, one_part, two_parts, four_parts, five_parts}
+use Rattle.syntax.specs.Standing.{Stands, Fill}
+use Rattle.syntax.proofs.Answering.{refuses, refused_first, goes_on, miscounted, counted_so}
 use Rattle.syntax.proofs.Trunks.{fill_first, fill_rest}
 
 -- what `counted` answers

@@ -1,26 +1,24 @@
 -- Declarations by their nodes.
-use Rattle.std.proofs.Common.{◌≡◌, ℕ, suc, ◌+◌, ◌<◌, ◌≤◌, Bool, true, false, cond, leb, List, [], ◌∷◌, ◌++◌, Ok, Err, codes, Result, sym, refl, ap, ◌∙◌, subst, arith}
-use mathlib.Core.Path.{subst⁻¹}
+use Rattle.std.proofs.Common.{◌≡◌, ℕ, Bool, true, false, cond, leb, List, [], ◌∷◌, Ok, Err, codes, Result, sym, refl, ap, ◌∙◌}
 use Rattle.std.proofs.lemmas.Bool.{le-leb}
 use Rattle.std.specs.Str.{bytes_eq}
 use Rattle.text.specs.declared.node.Node.{Node}
 use Rattle.text.specs.declared.part.Part.{Part}
 use Rattle.text.specs.Trees.{Tree, quoted, integer, bracket, Trees, none, more}
 use Rattle.syntax.specs.declared.fault.ShapeFault.{ShapeFault}
-use Rattle.syntax.specs.declared.fault.ShapeFault.TheVariants.{Limit, Misfit, NotCarried, NoName, NoMemory}
+use Rattle.syntax.specs.declared.fault.ShapeFault.TheVariants.{Limit, Misfit}
 use Rattle.syntax.specs.declared.source.Bracket.{Bracket as Opening}
 use Rattle.syntax.specs.declared.source.Headed.{Headed}
 use Rattle.syntax.specs.declared.spec.Name.{Name}
 use Rattle.syntax.specs.declared.symbol.FunctionClass.{FunctionClass}
-use Rattle.syntax.specs.declared.symbol.Symbol.{Symbol}
 use Rattle.syntax.specs.declared.symbol.Symbol.TheVariants as symbols
 use Rattle.syntax.specs.Names.{is_name}
-use Rattle.syntax.specs.Symbols.{one_of, not_carried, symbol, found, function_type}
-use Rattle.syntax.specs.Shape.{Shaped, and_then, bytes, spells, misfit, at_most, parts_count, short, a_name, names, function_of, shared_as, type_of, shared_of, knows_of, everybody_of, declaration, declarations}
-use Rattle.syntax.specs.Specs.{Declared, value, function, knows, everybody}
+use Rattle.syntax.specs.Symbols.{symbol, found, function_type}
+use Rattle.syntax.specs.Shape.{Shaped, and_then, bytes, spells, misfit, parts_count, short, a_name, names, function_of, shared_as, type_of, shared_of, knows_of, everybody_of, declaration, declarations}
+use Rattle.syntax.specs.Specs.{Declared, value, function}
 use Rattle.syntax.specs.Seeing.{Answers, Refuses, Opened, HeadedBy, headed}
 use Rattle.syntax.specs.Standing.{Fill}
-use Rattle.syntax.proofs.Answering.{refuses, refuses_path, refuses_then, refused_first, goes_on, answers_path}
+use Rattle.syntax.proofs.Answering.{refuses, refuses_then, answers_path}
 use Rattle.syntax.proofs.Nodes.{Faulty, fault_name, fault_misfit, bracket_misfit, name_misfit, name_short}
 use Rattle.syntax.proofs.Spelled.{apart, never, symbol_fits, same_so}
 

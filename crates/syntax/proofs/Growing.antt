@@ -1,7 +1,7 @@
 -- Tables that grow by declarations and by lines.
-use Rattle.std.proofs.Common.{◌≡◌, ℕ, suc, ◌+◌, List, [], ◌∷◌, ◌++◌, length, vec_items, sym, refl, ap, ◌∙◌, subst, append_assoc, append-nil, arith, length-append}
+use Rattle.std.proofs.Common.{◌≡◌, ◌+◌, List, [], ◌∷◌, ◌++◌, length, vec_items, sym, refl, ap, ◌∙◌, append_assoc, append-nil, length-append}
 use Rattle.syntax.specs.declared.spec.Spec.{Spec}
-use Rattle.syntax.specs.Seeing.{Declares, Lengthens, Grown}
+use Rattle.syntax.specs.Seeing.{Declares, Lengthens}
 use Rattle.syntax.specs.Specs.{Declared, declared_row, declared_nodes, declared_parameters, declared_rows, all_declared_nodes, all_parameters, Lined, nodes, line_rows, all_line_nodes}
 
 pub grown_more : {B : Type 0} (s s' s'' xs ys : List B) → s' ≡ s ++ xs → s'' ≡ s' ++ ys → s'' ≡ s ++ (xs ++ ys)

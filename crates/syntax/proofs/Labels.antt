@@ -1,14 +1,14 @@
 -- Labels of lines.
-use Rattle.std.proofs.Common.{◌≡◌, ℕ, Bool, true, false, cond, List, Ok, Err, sym, refl, ap, ◌∙◌, subst}
+use Rattle.std.proofs.Common.{◌≡◌, ℕ, true, List, Ok, Err, sym, refl, ap, ◌∙◌}
 use Rattle.text.specs.declared.node.Node.{Node}
-use Rattle.text.specs.Trees.{Tree, quoted, integer, bracket, Trees, none, more}
+use Rattle.text.specs.Trees.{Tree, quoted, integer, bracket}
 use Rattle.syntax.specs.declared.fault.ShapeFault.{ShapeFault}
-use Rattle.syntax.specs.declared.fault.ShapeFault.TheVariants.{Limit, Misfit, NotCarried, NoName, NoMemory}
+use Rattle.syntax.specs.declared.fault.ShapeFault.TheVariants.{Misfit}
 use Rattle.syntax.specs.declared.source.Bracket.{Bracket as Opening}
 use Rattle.syntax.specs.declared.spec.Label.TheVariants as label_of
 use Rattle.syntax.specs.declared.spec.Name.{Name}
 use Rattle.syntax.specs.Names.{is_name}
-use Rattle.syntax.specs.Shape.{Shaped, and_then, bytes, misfit, a_name, short, label}
+use Rattle.syntax.specs.Shape.{Shaped, and_then, bytes, a_name, short, label}
 use Rattle.syntax.specs.Seeing.{Opened}
 use Rattle.syntax.proofs.Nodes.{Faulty, fault_name, fault_misfit, bracket_misfit, name_short}
 

@@ -1,12 +1,12 @@
 -- A loop over the parts of a bracket: what is left of them stands at `part`, and gives with what was done the answer for all.
-use Rattle.std.proofs.Common.{◌≡◌, ℕ, zero, suc, ◌+◌, ◌<◌, ◌≤◌, List, Ok, Err, Result, sym, refl, ap, ◌∙◌, subst, arith}
+use Rattle.std.proofs.Common.{◌≡◌, ℕ, ◌+◌, ◌<◌, ◌≤◌, List, Ok, Err, Result, ap, ◌∙◌, subst}
 use Rattle.text.specs.declared.node.Node.{Node}
-use Rattle.text.specs.Trees.{Tree, Trees, none, more, size, sizes}
+use Rattle.text.specs.Trees.{Tree, Trees, none, more, size}
 use Rattle.syntax.specs.declared.fault.ShapeFault.{ShapeFault}
 use Rattle.syntax.specs.declared.source.Parts.{Parts}
 use Rattle.syntax.specs.Seeing.{Answers, Refuses}
 use Rattle.syntax.specs.Shape.{Shaped, and_then}
-use Rattle.syntax.specs.Standing.{Stands, Stand, Fill}
+use Rattle.syntax.specs.Standing.{Stands, Fill}
 use Rattle.syntax.proofs.Answering.{refuses_then, refuses_path, answers_path}
 use Rattle.syntax.proofs.Trunks.{fill_none, fill_first, fill_rest, fill_some}
 

@@ -1,25 +1,23 @@
 -- Lines by their nodes.
-use Rattle.std.proofs.Common.{◌≡◌, ℕ, suc, ◌+◌, ◌<◌, ◌≤◌, Bool, true, false, cond, List, [], ◌∷◌, ◌++◌, Ok, Err, codes, Result, sym, refl, ap, ◌∙◌, subst, arith}
-use mathlib.Core.Path.{subst⁻¹}
+use Rattle.std.proofs.Common.{◌≡◌, ℕ, ◌+◌, Bool, true, false, cond, List, [], ◌∷◌, Ok, Err, codes, Result, sym, refl, ap, ◌∙◌}
 use Rattle.std.specs.Str.{bytes_eq}
 use Rattle.text.specs.declared.node.Node.{Node}
 use Rattle.text.specs.declared.part.Part.{Part}
 use Rattle.text.specs.Trees.{Tree, quoted, integer, bracket, Trees, none, more, size}
 use Rattle.syntax.specs.declared.fault.ShapeFault.{ShapeFault}
-use Rattle.syntax.specs.declared.fault.ShapeFault.TheVariants.{Limit, Misfit, NotCarried, NoName, NoMemory}
+use Rattle.syntax.specs.declared.fault.ShapeFault.TheVariants.{Misfit, NotCarried}
 use Rattle.syntax.specs.declared.source.Bracket.{Bracket as Opening}
 use Rattle.syntax.specs.declared.source.Parts.{Parts}
 use Rattle.syntax.specs.declared.spec.Label.{Label}
 use Rattle.syntax.specs.declared.spec.Name.{Name}
-use Rattle.syntax.specs.declared.symbol.Symbol.{Symbol}
 use Rattle.syntax.specs.declared.symbol.Symbol.TheVariants as symbols
 use Rattle.syntax.specs.Names.{is_name}
-use Rattle.syntax.specs.Symbols.{one_of, not_carried, symbol, found}
+use Rattle.syntax.specs.Symbols.{symbol, found}
 use Rattle.syntax.specs.Shape.{Shaped, and_then, bytes, spells, misfit, parts_count, a_name, label, term, comm_of, line, lines}
 use Rattle.syntax.specs.Specs.{Lined}
 use Rattle.syntax.specs.Seeing.{Answers, Refuses, Opened}
 use Rattle.syntax.specs.Standing.{Stands, Fill}
-use Rattle.syntax.proofs.Answering.{refuses, refuses_path, refuses_then, refused_first, goes_on, answers_path, counted_so}
+use Rattle.syntax.proofs.Answering.{refuses, refused_first, goes_on, answers_path, counted_so}
 use Rattle.syntax.proofs.Counts.{counted_to, four_so}
 use Rattle.syntax.proofs.Nodes.{Faulty, fault_misfit, bracket_misfit, name_misfit}
 use Rattle.syntax.proofs.Spelled.{apart, never, symbol_fits, same_so}

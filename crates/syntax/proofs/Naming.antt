@@ -1,7 +1,7 @@
 -- Names of a function's parameters.
-use Rattle.std.proofs.Common.{◌≡◌, ℕ, List, [], ◌∷◌, Ok, Err, refl}
+use Rattle.std.proofs.Common.{◌≡◌, ℕ, List, [], ◌∷◌, Ok, refl}
 use Rattle.text.specs.Trees.{Tree, Trees, none, more}
-use Rattle.syntax.specs.Shape.{Shaped, and_then, a_name, names}
+use Rattle.syntax.specs.Shape.{and_then, a_name, names}
 
 pub names_none : (text : List ℕ) → names text none ≡ Ok []
 unfolding names

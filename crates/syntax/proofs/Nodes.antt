@@ -1,15 +1,15 @@
 -- What a node's row shows of the tree that stands there.
-use Rattle.std.proofs.Common.{◌≡◌, ℕ, suc, ◌+◌, ◌<◌, ◌≤◌, Bool, true, false, cond, eqb, List, length, get_or, Ok, Err, codes, Result, sym, refl, ap, ◌∙◌, subst, arith}
+use Rattle.std.proofs.Common.{◌≡◌, ℕ, suc, ◌+◌, ◌<◌, Bool, true, false, cond, eqb, List, length, get_or, Ok, Err, codes, sym, refl, ap, ◌∙◌, arith}
 use Prim.Native.String.{String}
 use mathlib.Core.Path.{subst⁻¹}
-use Rattle.std.proofs.lemmas.Bool.{ne_eqb, le-leb, lt-leb}
+use Rattle.std.proofs.lemmas.Bool.{ne_eqb}
 use Rattle.text.specs.declared.node.Node.{Node}
 use Rattle.text.specs.declared.node.NodeKind.{NodeKind}
 use Rattle.text.specs.declared.node.NodeKind.TheVariants.{Quoted, Integer, Bracket}
 use Rattle.text.specs.declared.part.Part.{Part}
-use Rattle.text.specs.Trees.{Tree, quoted, integer, bracket, Trees, none, more, size, sizes}
+use Rattle.text.specs.Trees.{Tree, quoted, integer, bracket, Trees, none, more, sizes}
 use Rattle.syntax.specs.declared.fault.ShapeFault.{ShapeFault}
-use Rattle.syntax.specs.declared.fault.ShapeFault.TheVariants.{Limit, Misfit, NotCarried, NoName, NoMemory}
+use Rattle.syntax.specs.declared.fault.ShapeFault.TheVariants.{Misfit, NotCarried, NoName}
 use Rattle.syntax.specs.declared.source.Bracket.{Bracket as Opening}
 use Rattle.syntax.specs.declared.source.Item.{Item}
 use Rattle.syntax.specs.declared.source.Item.TheVariants as items
@@ -20,7 +20,7 @@ use Rattle.syntax.specs.Names.{is_name}
 use Rattle.syntax.specs.Symbols.{one_of, not_carried, symbol}
 use Rattle.syntax.specs.Shape.{Shaped, bytes, spells, misfit, form, short, a_name, no_parts, parts_count}
 use Rattle.syntax.specs.Seeing.{item, Opened, Uncarried}
-use Rattle.syntax.specs.Standing.{no_row, Stands, Fill}
+use Rattle.syntax.specs.Standing.{no_row, Stands}
 use Rattle.syntax.proofs.Spelled.{apart, never, barred, carried_so, symbol_fits}
 use Rattle.syntax.proofs.Trunks.{row_read}
 

@@ -1,13 +1,11 @@
 -- The parts of a specification, and the whole.
-use Rattle.std.proofs.Common.{◌≡◌, ℕ, suc, ◌+◌, ◌<◌, ◌≤◌, Bool, true, false, cond, leb, List, [], ◌∷◌, ◌++◌, length, Ok, Err, vec_items, codes, Result, sym, refl, ap, ◌∙◌, subst, arith}
-use Prim.Native.String.{String}
-use mathlib.Core.Path.{subst⁻¹}
+use Rattle.std.proofs.Common.{◌≡◌, ℕ, ◌+◌, ◌<◌, ◌≤◌, Bool, true, false, cond, List, [], ◌++◌, length, Ok, Err, vec_items, codes, Result, sym, refl, ap, ◌∙◌, subst, arith}
 use Rattle.std.proofs.lemmas.Bool.{le-leb, lt-leb}
 use Rattle.text.specs.declared.node.Node.{Node}
 use Rattle.text.specs.declared.part.Part.{Part}
-use Rattle.text.specs.Trees.{Tree, quoted, integer, bracket, Trees, none, more, size, sizes}
+use Rattle.text.specs.Trees.{Tree, quoted, integer, bracket, Trees, sizes}
 use Rattle.syntax.specs.declared.fault.ShapeFault.{ShapeFault}
-use Rattle.syntax.specs.declared.fault.ShapeFault.TheVariants.{Limit, Misfit, NotCarried, NoName, NoMemory}
+use Rattle.syntax.specs.declared.fault.ShapeFault.TheVariants.{Limit, Misfit, NotCarried, NoName}
 use Rattle.syntax.specs.declared.source.Bracket.{Bracket as Opening}
 use Rattle.syntax.specs.declared.source.Item.{Item}
 use Rattle.syntax.specs.declared.source.Item.TheVariants as items
@@ -15,11 +13,10 @@ use Rattle.syntax.specs.declared.source.Parts.{Parts}
 use Rattle.syntax.specs.declared.spec.Spec.{Spec}
 use Rattle.syntax.specs.declared.symbol.Section.{Section}
 use Rattle.syntax.specs.declared.symbol.Section.TheVariants as sections
-use Rattle.syntax.specs.declared.symbol.Symbol.{Symbol}
 use Rattle.syntax.specs.declared.symbol.Symbol.TheVariants as symbols
 use Rattle.syntax.specs.Names.{is_name}
 use Rattle.syntax.specs.Symbols.{one_of, not_carried, symbol, found}
-use Rattle.syntax.specs.Shape.{Shaped, and_then, bytes, form, at_most, parts_count, five_parts, declarations, lines, declare, block, barred, empty, section, specification, shape}
+use Rattle.syntax.specs.Shape.{Shaped, and_then, bytes, at_most, parts_count, five_parts, declarations, lines, declare, block, barred, empty, section, specification, shape}
 use Rattle.syntax.specs.Specs.{Declared, Lined, Specification, declared_rows, all_declared_nodes, all_parameters, line_rows, all_line_nodes}
 use Rattle.syntax.specs.Tables.{Tabled}
 use Rattle.syntax.specs.Seeing.{Answers, Refuses, Opened, item, item_place, section_word, Declares, Lengthens, Shapes, five}

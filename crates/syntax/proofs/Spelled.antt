@@ -1,14 +1,10 @@
 -- Symbols by their names.
 use Rattle.std.proofs.Common.{◌≡◌, ℕ, Bool, true, false, cond, List, [], ◌∷◌, Some, None, codes, Decides, Option, sym, refl, ap, ◌∙◌, subst, arith, Bor}
-use Prim.Native.String.{String}
 use Rattle.std.specs.Str.{bytes_eq}
 use Rattle.std.proofs.lemmas.Slice.Eq.{bytes_eq-Decides, slice_eq-Decides}
 use Rattle.std.proofs.lemmas.Bool.Decides.{Decides-eqb}
 use Rattle.std.proofs.Math.Dec.{eqb}
 use lib.Pointwise.{pointwise}
-use Rattle.syntax.specs.declared.symbol.FunctionClass.{FunctionClass}
-use Rattle.syntax.specs.declared.symbol.Section.{Section}
-use Rattle.syntax.specs.declared.symbol.Section.TheVariants as sections
 use Rattle.syntax.specs.declared.symbol.Symbol.{Symbol}
 use Rattle.syntax.specs.declared.symbol.Symbol.TheVariants as symbols
 use Rattle.syntax.specs.Seeing.{section_word}

@@ -1,23 +1,21 @@
 -- Terms that join the table of terms.
-use Rattle.std.proofs.Common.{◌≡◌, ℕ, zero, suc, ◌+◌, ◌<◌, ◌≤◌, Bool, true, false, cond, leb, List, [], ◌∷◌, ◌++◌, length, Ok, Err, codes, Result, sym, refl, ap, ◌∙◌, subst, append_assoc, append-nil, arith}
-use mathlib.Core.Path.{subst⁻¹}
-use Rattle.std.proofs.lemmas.Bool.{le-leb, lt-leb}
+use Rattle.std.proofs.Common.{◌≡◌, ℕ, suc, ◌+◌, ◌≤◌, Bool, true, false, cond, leb, List, [], ◌∷◌, ◌++◌, Ok, Err, codes, Result, sym, refl, ap, ◌∙◌, append-nil, arith}
+use Rattle.std.proofs.lemmas.Bool.{le-leb}
 use Rattle.text.specs.declared.node.Node.{Node}
 use Rattle.text.specs.declared.part.Part.{Part}
 use Rattle.text.specs.Trees.{Tree, quoted, integer, bracket, Trees, none, more, size}
 use Rattle.syntax.specs.declared.fault.ShapeFault.{ShapeFault}
-use Rattle.syntax.specs.declared.fault.ShapeFault.TheVariants.{Limit, Misfit, NotCarried, NoName, NoMemory}
+use Rattle.syntax.specs.declared.fault.ShapeFault.TheVariants.{Limit, Misfit}
 use Rattle.syntax.specs.declared.source.Bracket.{Bracket as Opening}
 use Rattle.syntax.specs.declared.source.Headed.{Headed}
 use Rattle.syntax.specs.declared.source.Parts.{Parts}
 use Rattle.syntax.specs.declared.spec.Form.TheVariants as form
 use Rattle.syntax.specs.declared.spec.Name.{Name}
 use Rattle.syntax.specs.declared.spec.TermNode.{TermNode}
-use Rattle.syntax.specs.declared.symbol.Symbol.{Symbol}
 use Rattle.syntax.specs.declared.symbol.Symbol.TheVariants as symbols
 use Rattle.syntax.specs.Names.{is_name}
-use Rattle.syntax.specs.Symbols.{one_of, not_carried, symbol, found}
-use Rattle.syntax.specs.Shape.{Shaped, and_then, bytes, spells, misfit, at_most, parts_count, short, a_name, vanilla, marked, term, crypt_term, key_term, apply_term, terms}
+use Rattle.syntax.specs.Symbols.{symbol, found}
+use Rattle.syntax.specs.Shape.{Shaped, and_then, bytes, spells, misfit, parts_count, short, a_name, vanilla, term, crypt_term, apply_term, terms}
 use Rattle.syntax.specs.Specs.{Term, name, tuple, crypt, apply, Terms, count, nodes, nodes_all}
 use Rattle.syntax.specs.Specs as tables
 use Rattle.syntax.specs.Seeing.{Answers, Refuses, Grown, Opened, HeadedBy, headed, tuple_term}

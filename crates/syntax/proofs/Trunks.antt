@@ -1,6 +1,5 @@
 -- Trees that stand in a table: their rows, and where their parts stand.
-use Rattle.std.proofs.Common.{◌≡◌, ℕ, zero, suc, ◌+◌, ◌<◌, ◌≤◌, List, [], ◌∷◌, ◌++◌, length, get_or, sym, refl, ap, ◌∙◌, subst, append_assoc, append-nil, add-zero, arith, length-append}
-use lib.Seq.{get_or_at}
+use Rattle.std.proofs.Common.{◌≡◌, ℕ, suc, ◌+◌, ◌<◌, ◌≤◌, List, [], ◌∷◌, ◌++◌, length, get_or, sym, refl, ap, ◌∙◌, subst, append_assoc, append-nil, arith, length-append}
 use Rattle.std.proofs.lemmas.List.{get_or_default, get_or-map, length_push}
 use Rattle.text.specs.declared.node.Node.{Node}
 use Rattle.text.specs.declared.node.NodeKind.TheVariants.{Quoted, Integer, Bracket}

@@ -1,9 +1,9 @@
 -- What the steps of the shape's check answer where a tree stands.
-use Rattle.std.specs.Prelude.{◌≡◌, ℕ, ◌+◌, ◌<◌, ◌≤◌, Bool, true, false, cond, eqb, List, [], ◌∷◌, ◌++◌, length, Ok, Err, vec_items, Result}
+use Rattle.std.specs.Prelude.{◌≡◌, ℕ, ◌+◌, ◌<◌, ◌≤◌, true, false, cond, List, ◌++◌, length, Ok, Err, vec_items, Result}
 use Prim.Native.String.{String}
 use Rattle.text.specs.declared.node.Node.{Node}
 use Rattle.text.specs.declared.part.Part.{Part}
-use Rattle.text.specs.Trees.{Tree, quoted, integer, bracket, Trees, none, more, size, sizes}
+use Rattle.text.specs.Trees.{Tree, quoted, integer, bracket, Trees, none, more, sizes}
 use Rattle.syntax.specs.declared.fault.ShapeFault.{ShapeFault}
 use Rattle.syntax.specs.declared.fault.ShapeFault.TheVariants.{Limit, Misfit, NotCarried, NoName, NoMemory}
 use Rattle.syntax.specs.declared.source.Bracket.{Bracket}
@@ -19,7 +19,7 @@ use Rattle.syntax.specs.Symbols.{one_of, not_carried, symbol}
 use Rattle.syntax.specs.Shape.{Shaped, bytes, misfit, parts_count, at_most, and_then, a_name, terms}
 use Rattle.syntax.specs.Specs.{Term, tuple, Declared, declared_rows, all_declared_nodes, all_parameters, Lined, line_rows, all_line_nodes, Specification}
 use Rattle.syntax.specs.Tables.{Tabled}
-use Rattle.syntax.specs.Standing.{Stands, Stand, Fill}
+use Rattle.syntax.specs.Standing.{Fill}
 
 -- What a node shows, at row `i`.
 abbrev pub item : List ℕ → ℕ → Tree → Shaped Item

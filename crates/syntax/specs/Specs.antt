@@ -6,7 +6,6 @@ use Rattle.syntax.specs.declared.spec.Name.{Name}
 use Rattle.syntax.specs.declared.spec.Label.{Label}
 use Rattle.syntax.specs.declared.spec.Declaration.{Declaration}
 use Rattle.syntax.specs.declared.spec.Declaration.TheVariants.{Value, Function, Knows, EverybodyKnows}
-use Rattle.syntax.specs.declared.spec.Form.{Form}
 use Rattle.syntax.specs.declared.spec.Form.TheVariants as form
 use Rattle.syntax.specs.declared.spec.Line.{Line}
 use Rattle.syntax.specs.declared.spec.TermNode.{TermNode}

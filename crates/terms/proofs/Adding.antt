@@ -1,12 +1,11 @@
 -- A declaration by its row, and all of them.
-use Rattle.std.proofs.Common.{◌≡◌, ℕ, zero, suc, ◌+◌, ◌-◌, ◌<◌, ◌≤◌, Bool, List, [], ◌∷◌, ◌++◌, length, get_or, take, drop, Some, None, Ok, Err, vec_items, vec_len, Option, Result, sym, refl, ap, ◌∙◌, subst, ap₂, arith}
+use Rattle.std.proofs.Common.{◌≡◌, ℕ, ◌+◌, ◌-◌, ◌<◌, ◌≤◌, Bool, List, [], ◌∷◌, ◌++◌, length, get_or, take, drop, Some, None, Ok, Err, vec_items, vec_len, Result, sym, refl, ap, ◌∙◌, subst, arith}
 use mathlib.Core.Path.{subst⁻¹}
-use Rattle.std.proofs.lemmas.List.{append_assoc, append-nil, drop_more, drop_all, drop-drop, drop_at, take_at, get_or_default}
+use Rattle.std.proofs.lemmas.List.{append_assoc, drop_more, drop_all, drop-drop, drop_at, take_at, get_or_default}
 use Rattle.syntax.specs.declared.spec.Declaration.{Declaration}
 use Rattle.syntax.specs.declared.spec.Declaration.TheVariants as row
 use Rattle.syntax.specs.declared.spec.Name.{Name}
 use Rattle.syntax.specs.declared.spec.Spec.{Spec}
-use Rattle.syntax.specs.declared.spec.TermNode.{TermNode}
 use Rattle.syntax.specs.declared.symbol.FunctionClass.{FunctionClass}
 use Rattle.syntax.specs.Specs as syntax
 use Rattle.syntax.specs.Specs.{Term, nodes, Specification, declared_row, declared_nodes, declared_parameters, declared_rows, all_declared_nodes, all_parameters, all_line_nodes}
@@ -16,14 +15,12 @@ use Rattle.terms.specs.declared.declarations.Meaning.TheVariants as meaning
 use Rattle.terms.specs.declared.declarations.ValueType.{ValueType}
 use Rattle.terms.specs.declared.fault.TermFault.{TermFault}
 use Rattle.terms.specs.declared.fault.DeclarationFault.{DeclarationFault}
-use Rattle.terms.specs.declared.fault.DeclarationFault.TheVariants.{NoMemory}
 use Rattle.terms.specs.declared.limits.Limits.{Limits}
 use Rattle.terms.specs.Refusals.{to_declaration}
 use Rattle.terms.specs.Scope.{Scope, nothing_declared, number_of, meaning_of}
 use Rattle.terms.specs.Declaring.{bind, in_declaration, kind_of, kinds_of, party_number, fresh, with_name, with_function, known, declare, declare_all, declared}
 use Rattle.terms.specs.Meanings.{Means}
-use Rattle.terms.specs.Narrow.{Narrow, NarrowDeclared, AllNarrow}
-use Rattle.terms.specs.Reads.{Refused}
+use Rattle.terms.specs.Narrow.{NarrowDeclared, AllNarrow}
 use Rattle.terms.specs.Declares.{Unfit, Stands, Scoped, Kinds, Done, MoreNames, MoreFunctions, declared_name, function_name, function_row, Knowing, Declaring, Declares}
 use Rattle.terms.proofs.Terming.{refused_is}
 use Rattle.terms.proofs.Declared.{unfit_is, unfit_bind, unfit_as, unfit_term}

@@ -1,28 +1,28 @@
 -- The check of a term, form by form.
-use Rattle.std.proofs.Common.{◌≡◌, ℕ, zero, suc, ◌+◌, ◌-◌, ◌<◌, ◌≤◌, Bool, true, false, cond, eqb, List, [], ◌∷◌, ◌++◌, map, length, get_or, take, drop, Some, None, Ok, Err, vec_items, Option, Result, sym, refl, ap, ◌∙◌, add-one, arith}
+use Rattle.std.proofs.Common.{◌≡◌, ℕ, zero, suc, ◌+◌, ◌-◌, ◌<◌, ◌≤◌, cond, eqb, List, [], ◌∷◌, ◌++◌, length, get_or, take, drop, Some, None, Ok, Err, vec_items, Option, Result, sym, refl, ap, ◌∙◌, add-one, arith}
 use mathlib.Core.Path.{subst⁻¹}
-use Rattle.std.proofs.lemmas.List.{get_or-map, length-take-le, length-drop, at_drop_all, at_drop_more}
+use Rattle.std.proofs.lemmas.List.{get_or-map, length-take-le, length-drop}
 use Rattle.std.proofs.lemmas.Bool.{eq-eqb, ne_eqb}
 use Rattle.text.specs.declared.part.Part.{Part}
 use Rattle.syntax.specs.declared.spec.Name.{Name}
 use Rattle.syntax.specs.declared.spec.Form.TheVariants as form
 use Rattle.syntax.specs.declared.spec.TermNode.{TermNode}
-use Rattle.syntax.specs.Specs.{Term, name, tuple, crypt, apply, Terms, none, more, count, nodes, nodes_all}
+use Rattle.syntax.specs.Specs.{Term, tuple, crypt, apply, Terms, none, more, count, nodes, nodes_all}
 use Rattle.terms.specs.declared.declarations.Declarations.{Declarations}
 use Rattle.terms.specs.declared.declarations.Declared.{Declared}
 use Rattle.terms.specs.declared.declarations.Function.{Function}
 use Rattle.terms.specs.declared.declarations.Meaning.{Meaning}
 use Rattle.terms.specs.declared.declarations.Meaning.TheVariants as meaning
 use Rattle.terms.specs.declared.declarations.ValueType.{ValueType}
-use Rattle.terms.specs.declared.declarations.ValueType.TheVariants.{Number, Principal}
+use Rattle.terms.specs.declared.declarations.ValueType.TheVariants.{Number}
 use Rattle.terms.specs.declared.fault.TermFault.{TermFault}
 use Rattle.terms.specs.declared.fault.TermFault.TheVariants.{Undeclared, WrongType}
-use Rattle.terms.specs.Scope.{Scope, Signature, no_function, signature, meaning_of, bytes, find_meaning, find_from}
+use Rattle.terms.specs.Scope.{Scope, Signature, no_function, signature, meaning_of, bytes}
 use Rattle.terms.specs.Typing.{and_then, fits, name_fits, applied_number, applied_fits, typed, typed_all}
 use Rattle.terms.specs.Meanings.{Means, signature_in}
 use Rattle.terms.specs.Checked.{wanted_of, Applied, Checked, CheckedAll}
 use Rattle.terms.proofs.Naming.{meaning_place}
-use Rattle.terms.proofs.Nodes.{nothing_past, is_name, is_tuple, is_crypt, is_apply, at_node, behind_term, split, stands_more, length_more, length_name, length_none, length_tuple, length_apply, length_crypt, stands_two, length_two}
+use Rattle.terms.proofs.Nodes.{nothing_past, is_name, is_tuple, is_crypt, is_apply, at_node, behind_term, stands_more, length_more, length_name, length_none, length_tuple, length_apply, length_crypt, stands_two, length_two}
 
 -- what is wanted of the first of some parts, and of the others
 module _ (text : List ℕ) (S : Scope) where

@@ -1,21 +1,18 @@
 -- A loop that gathers what passes a test. The invariant is that what is gathered, and behind it what is left, is all.
-use Rattle.std.proofs.Common.{◌≡◌, ℕ, zero, suc, ◌+◌, ◌<◌, ◌≤◌, Bool, true, false, cond, ◌&&◌, ◌||◌, eqb, ltb, List, [], ◌∷◌, ◌++◌, map, length, get_or, drop, Some, None, vec_items, Option, sym, refl, ap, ◌∙◌, ap₂, arith}
-use Rattle.std.proofs.lemmas.List.{append_assoc, append-nil, at_drop_more, at_drop_all, drop-map, get_or-map, length-map, same_lists, get_or_default}
+use Rattle.std.proofs.Common.{◌≡◌, ℕ, suc, ◌+◌, ◌<◌, ◌≤◌, Bool, true, false, cond, ◌&&◌, ◌||◌, ltb, List, [], ◌∷◌, ◌++◌, map, length, get_or, drop, Some, None, vec_items, Option, sym, refl, ap, ◌∙◌, arith}
+use Rattle.std.proofs.lemmas.List.{append_assoc, append-nil, at_drop_more, at_drop_all, drop-map, get_or-map, length-map, same_lists}
 use Rattle.std.proofs.lemmas.Bool.{lt-ltb}
 use Rattle.model.specs.Trees.{Tree, leaf, node}
-use Rattle.terms.specs.declared.declarations.Declarations.{Declarations}
 use Rattle.terms.specs.declared.declarations.Declared.{Declared}
-use Rattle.terms.specs.declared.declarations.Right.{Right}
 use Rattle.terms.specs.declared.declarations.Start.{Start}
 use Rattle.terms.specs.declared.table.TermTable.{TermTable}
 use Rattle.terms.specs.declared.term.TermRow.{TermRow}
 use Rattle.terms.specs.declared.term.TermRow.TheVariants.{Name, Compound}
-use Rattle.terms.specs.Shapes.{grown, named, formed}
-use Rattle.terms.specs.Rows.{shape_of, row_at, term_tree}
+use Rattle.terms.specs.Shapes.{grown}
+use Rattle.terms.specs.Rows.{shape_of, row_at}
 use Rattle.terms.specs.Terms.{tree_in, size}
-use Rattle.terms.specs.Scope.{Scope}
-use Rattle.terms.specs.Meanings.{Means, Lists, given_in}
-use Rattle.terms.specs.Starting.{concerns, given_to, has_right, is_makeable, made_among}
+use Rattle.terms.specs.Meanings.{Lists, given_in}
+use Rattle.terms.specs.Starting.{concerns, given_to, is_makeable, made_among}
 use Rattle.terms.proofs.Tables.{stands}
 
 module _ {X Y : Type 0} (P : List X → List Y) (test : X → Bool) (val : X → Y) (step : (x : X) (xs : List X) → P (x ∷ xs) ≡ cond (test x) (val x ∷ P xs) (P xs)) (xs : List X) (i : ℕ) (ys all : List Y) (e : ys ++ P (drop i xs) ≡ all) where

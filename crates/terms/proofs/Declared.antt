@@ -1,33 +1,27 @@
 -- Declarations, step by step.
-use Rattle.std.proofs.Common.{◌≡◌, ℕ, zero, suc, ◌+◌, ◌-◌, ◌<◌, ◌≤◌, min, Bool, cond, List, [], ◌∷◌, ◌++◌, length, get_or, take, drop, Some, None, Ok, Err, vec_items, codes, Option, Result, sym, refl, ap, ◌∙◌, subst, ap₂, arith}
+use Rattle.std.proofs.Common.{◌≡◌, ℕ, ◌+◌, ◌<◌, ◌≤◌, min, Bool, cond, List, [], ◌∷◌, ◌++◌, length, get_or, drop, Some, None, Ok, Err, vec_items, codes, Option, Result, sym, refl, ap, ◌∙◌, ap₂, arith}
 use mathlib.Core.Path.{subst⁻¹}
-use Rattle.std.proofs.lemmas.List.{append_assoc, append-nil, drop_more, drop_all}
 use Rattle.text.specs.declared.part.Part.{Part}
 use Rattle.syntax.specs.declared.spec.Name.{Name}
-use Rattle.syntax.specs.declared.spec.Form.{Form}
 use Rattle.syntax.specs.declared.spec.Form.TheVariants as form
 use Rattle.syntax.specs.declared.spec.TermNode.{TermNode}
-use Rattle.syntax.specs.Specs.{Term, name, tuple, crypt, apply, nodes}
+use Rattle.syntax.specs.Specs.{Term}
 use Rattle.terms.specs.declared.declarations.Declarations.{Declarations}
-use Rattle.terms.specs.declared.declarations.ValueType.{ValueType}
 use Rattle.terms.specs.declared.fault.TermFault.{TermFault}
 use Rattle.terms.specs.declared.fault.TermFault.TheVariants as term_fault
 use Rattle.terms.specs.declared.fault.DeclarationFault.{DeclarationFault}
 use Rattle.terms.specs.declared.fault.DeclarationFault.TheVariants.{Limit, Redeclared, Undeclared, WrongType, NoMemory}
 use Rattle.terms.specs.declared.limits.Limits.{Limits}
 use Rattle.terms.specs.Refusals.{to_declaration}
-use Rattle.terms.specs.Terms.{tree_in, size}
 use Rattle.terms.specs.Scope.{Scope, bytes, eq_bytes, meaning_of, function_of}
-use Rattle.terms.specs.Declaring.{bind, in_declaration, kind_of, kinds_of, with_terms, with_term, with_right, with_start, right_of, known}
+use Rattle.terms.specs.Declaring.{bind, in_declaration, kind_of, with_terms, with_term, with_right, with_start, right_of, known}
 use Rattle.model.specs.Trees.{Tree}
 use Rattle.terms.specs.declared.declarations.ValueType.TheVariants.{Number, Principal}
 use Rattle.terms.specs.Typing.{and_then, typed}
 use Rattle.terms.specs.Numbering.{tree, read}
-use Rattle.terms.specs.Meanings.{Means}
-use Rattle.terms.specs.Narrow.{Narrow}
 use Rattle.terms.specs.Reads.{Refused}
 use Rattle.terms.specs.Termed.{Termed}
-use Rattle.terms.specs.Declares.{Unfit, Stands, Scoped, Kinds, Righting, Knowing}
+use Rattle.terms.specs.Declares.{Unfit, Righting, Knowing}
 use Rattle.terms.proofs.Nodes.{nothing_past, is_name, at_node, not_a_name}
 use Rattle.terms.proofs.Pushing.{means_right, means_start}
 

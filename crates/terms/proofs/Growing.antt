@@ -1,5 +1,5 @@
 -- Tables that grow.
-use Rattle.std.proofs.Common.{ℕ, ◌<◌, ◌≤◌, vec_items, refl, ◌∙◌, arith}
+use Rattle.std.proofs.Common.{ℕ, ◌<◌, vec_items, refl, ◌∙◌, arith}
 use Rattle.terms.specs.declared.table.TermTable.{TermTable}
 use Rattle.terms.specs.Shapes.{Shape}
 use Rattle.terms.specs.Interned.{Numbers}

@@ -1,11 +1,10 @@
 -- What one more row does to a table.
-use Rattle.std.proofs.Common.{◌≡◌, ℕ, zero, suc, ◌+◌, ◌<◌, ◌≤◌, Bool, true, false, cond, List, [], ◌∷◌, ◌++◌, length, get_or, sym, refl, ap, ◌∙◌, subst, ap₂, arith, below_more}
+use Rattle.std.proofs.Common.{◌≡◌, ℕ, zero, suc, ◌<◌, ◌≤◌, Bool, true, false, cond, List, [], ◌∷◌, ◌++◌, length, get_or, sym, refl, ap, ◌∙◌, arith, below_more}
 use mathlib.Core.Path.{subst⁻¹}
 use Rattle.std.proofs.lemmas.List.{length-map, length_push}
 use Rattle.terms.specs.declared.term.TermRow.{TermRow}
-use Rattle.terms.specs.declared.term.TermRow.TheVariants.{Name}
-use Rattle.terms.specs.Shapes.{named, grown, tree_of, two_parts, AllBelow, numbers}
-use Rattle.terms.specs.Rows.{shape_of, shapes, row_at, term_tree, Ordered, Formed, Distinct, Stands}
+use Rattle.terms.specs.Shapes.{grown, tree_of, two_parts, AllBelow, numbers}
+use Rattle.terms.specs.Rows.{shape_of, shapes, row_at, term_tree, Ordered, Formed, Distinct}
 use Rattle.terms.specs.Interned.{Fits, At, Absent, Numbers}
 use Rattle.terms.proofs.Numbered.{agree, grown_same}
 use Rattle.terms.proofs.Tables.{shape_at, shapes_below, stands}

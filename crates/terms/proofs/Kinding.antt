@@ -1,12 +1,11 @@
 -- The types of parameters, one after the other.
 use Rattle.std.proofs.Common.{◌≡◌, ℕ, zero, suc, ◌+◌, ◌-◌, ◌<◌, ◌≤◌, List, [], ◌∷◌, ◌++◌, length, get_or, take, drop, Ok, Err, Result, sym, refl, ap, ◌∙◌, ap₂, arith}
-use mathlib.Core.Path.{subst⁻¹}
 use Rattle.std.proofs.lemmas.List.{append_assoc, append-nil, drop_more, drop_all}
 use Rattle.syntax.specs.declared.spec.Name.{Name}
 use Rattle.terms.specs.declared.declarations.ValueType.{ValueType}
 use Rattle.terms.specs.declared.fault.DeclarationFault.{DeclarationFault}
 use Rattle.terms.specs.Declaring.{bind, kind_of, kinds_of}
-use Rattle.terms.specs.Declares.{Unfit, Kinds}
+use Rattle.terms.specs.Declares.{Kinds}
 use Rattle.terms.proofs.Declared.{unfit_is}
 
 -- types, behind some others

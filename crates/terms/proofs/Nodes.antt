@@ -1,5 +1,5 @@
 -- Which term stands at a node.
-use Rattle.std.proofs.Common.{◌≡◌, ℕ, suc, ◌+◌, ◌<◌, ◌≤◌, List, [], ◌∷◌, ◌++◌, length, get_or, drop, sym, refl, ap, ◌∙◌, arith}
+use Rattle.std.proofs.Common.{◌≡◌, ℕ, ◌+◌, ◌<◌, ◌≤◌, List, [], ◌∷◌, ◌++◌, length, get_or, drop, sym, refl, ap, ◌∙◌, arith}
 use Rattle.std.proofs.lemmas.List.{append_assoc, length-append, drop_all, drop_more, drop-drop, drop_at, get_or_default}
 use Rattle.text.specs.declared.part.Part.{Part}
 use Rattle.syntax.specs.declared.spec.Name.{Name}

@@ -1,7 +1,7 @@
 -- The tree of a number is made of the trees of its parts, and different numbers stand for different trees.
 use Rattle.std.proofs.Common.{◌≡◌, ℕ, zero, suc, ◌<◌, ◌≤◌, List, [], ◌∷◌, ◌++◌, length, get_or, take, sym, refl, ap, ◌∙◌, ap₂, arith}
 use mathlib.Core.Path.{subst⁻¹}
-use Rattle.model.specs.Trees.{Head, Tree, Trees, leaf, node, none, more}
+use Rattle.model.specs.Trees.{Tree, node, more}
 use Rattle.terms.specs.Shapes.{Shape, named, formed, trees, grown, tree_within, tree_of, AllBelow, numbers}
 
 pub trees_same : (f g : ℕ → Tree) (k : ℕ) (ps : List ℕ) → AllBelow k ps → ((p : ℕ) → p < k → f p ≡ g p) → trees f ps ≡ trees g ps

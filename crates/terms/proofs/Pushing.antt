@@ -1,24 +1,20 @@
 -- What the declarations stand for when one row more is there.
-use Rattle.std.proofs.Common.{◌≡◌, ℕ, zero, suc, ◌+◌, ◌-◌, ◌<◌, ◌≤◌, Bool, ◌⊎◌, List, [], ◌∷◌, ◌++◌, map, length, get_or, take, drop, vec_items, vec_len, Option, sym, refl, ap, ◌∙◌, subst, ap₂, inl, inr, ⊎_elim, arith}
+use Rattle.std.proofs.Common.{◌≡◌, ℕ, suc, ◌-◌, ◌<◌, ◌≤◌, Bool, ◌⊎◌, List, [], ◌∷◌, ◌++◌, map, length, get_or, take, drop, vec_items, vec_len, Option, sym, refl, ap, ◌∙◌, ap₂, inl, inr, ⊎_elim, arith}
 use mathlib.Core.Path.{subst⁻¹}
-use Rattle.std.proofs.lemmas.List.{length_push, length-append, length-drop, get_or_push, get_or_append_left, map_push, length-map, drop-append-le, take-append-le, drop_at, take_all, drop_all}
+use Rattle.std.proofs.lemmas.List.{length_push, length-append, length-drop, get_or_push, get_or_append_left, map_push, length-map, drop-append-le, take-append-le, drop_at, take_all}
 use Rattle.std.proofs.lemmas.Bool.{cases_lt}
-use Rattle.model.specs.Trees.{Tree, leaf}
 use Rattle.syntax.specs.declared.spec.Name.{Name}
 use Rattle.syntax.specs.declared.symbol.FunctionClass.{FunctionClass}
 use Rattle.syntax.specs.Specs.{Term}
 use Rattle.terms.specs.declared.declarations.Declarations.{Declarations}
 use Rattle.terms.specs.declared.declarations.Declared.{Declared}
 use Rattle.terms.specs.declared.declarations.Function.{Function}
-use Rattle.terms.specs.declared.declarations.Meaning.{Meaning}
 use Rattle.terms.specs.declared.declarations.Meaning.TheVariants as meaning
-use Rattle.terms.specs.declared.declarations.Right.{Right}
 use Rattle.terms.specs.declared.declarations.Start.{Start}
 use Rattle.terms.specs.declared.declarations.ValueType.{ValueType}
 use Rattle.terms.specs.declared.limits.Limits.{Limits}
-use Rattle.terms.specs.declared.table.TermTable.{TermTable}
 use Rattle.terms.specs.Terms.{tree_in, size}
-use Rattle.terms.specs.Scope.{Scope, Signature, nothing_declared}
+use Rattle.terms.specs.Scope.{Scope, nothing_declared}
 use Rattle.terms.specs.Numbering.{tree}
 use Rattle.terms.specs.Declaring.{with_name, with_function, with_start, with_right}
 use Rattle.terms.specs.Meanings.{Means, Lists, given_in, signature_in}

@@ -1,7 +1,6 @@
 -- The numbering of a term, form by form.
-use Rattle.std.proofs.Common.{◌≡◌, ℕ, zero, suc, ◌+◌, ◌<◌, ◌≤◌, Bool, true, false, List, [], ◌∷◌, ◌++◌, length, get_or, take, drop, is_some, Some, None, Ok, Err, vec_items, Option, Result, unwrap_or, sym, refl, ap, ◌∙◌, subst, ap₂, arith}
+use Rattle.std.proofs.Common.{◌≡◌, ℕ, ◌+◌, ◌<◌, ◌≤◌, true, false, List, [], ◌∷◌, ◌++◌, length, get_or, drop, is_some, Some, None, Ok, Err, vec_items, Option, Result, unwrap_or, sym, ap, ◌∙◌, subst, ap₂, arith}
 use mathlib.Core.Path.{subst⁻¹}
-use Rattle.std.proofs.lemmas.List.{take_all, length_push}
 use Rattle.model.specs.Trees as model
 use Rattle.model.specs.Trees.{Head, tupled, crypted, applied, Tree, Trees, leaf, node}
 use Rattle.program.specs.declared.parts.Parts.{Parts}
@@ -10,7 +9,7 @@ use Rattle.text.specs.declared.part.Part.{Part}
 use Rattle.syntax.specs.declared.spec.Name.{Name}
 use Rattle.syntax.specs.declared.spec.Form.TheVariants as form
 use Rattle.syntax.specs.declared.spec.TermNode.{TermNode}
-use Rattle.syntax.specs.Specs.{Term, name, tuple, crypt, apply, Terms, none, more, count, nodes, nodes_all}
+use Rattle.syntax.specs.Specs.{Term, name, tuple, crypt, apply, nodes}
 use Rattle.terms.specs.declared.declarations.Declared.{Declared}
 use Rattle.terms.specs.declared.declarations.Meaning.{Meaning}
 use Rattle.terms.specs.declared.declarations.Meaning.TheVariants as meaning
@@ -22,10 +21,10 @@ use Rattle.terms.specs.Shapes.{named, formed, grown, AllBelow}
 use Rattle.terms.specs.Interned.{Interned}
 use Rattle.terms.specs.Terms.{tree_in, size, Grows}
 use Rattle.terms.specs.Scope.{number_of, meaning_of, function_of}
-use Rattle.terms.specs.Numbering.{function_number, tree, trees, noted, next, read, read_all}
+use Rattle.terms.specs.Numbering.{function_number, tree, noted, next, read, read_all}
 use Rattle.terms.specs.Meanings.{Lists}
-use Rattle.terms.specs.Reads.{Refused, Noted, Sayable, SayableAll, Read, Reads, ReadAll, ReadsAll}
-use Rattle.terms.proofs.Nodes.{nothing_past, is_name, is_tuple, is_crypt, is_apply, at_node, behind_term, stands_more, length_more, length_name, length_none, length_tuple, length_apply, length_crypt}
+use Rattle.terms.specs.Reads.{Refused, Noted, Sayable, Read, Reads, ReadsAll}
+use Rattle.terms.proofs.Nodes.{nothing_past, is_name, is_tuple, is_crypt, is_apply, at_node, behind_term, length_name, length_tuple, length_apply, length_crypt}
 use Rattle.terms.proofs.Noting.{noting}
 
 -- what the number of a function says

@@ -1,24 +1,23 @@
 -- The numbering of some terms, one after the other.
-use Rattle.std.proofs.Common.{◌≡◌, ℕ, zero, suc, ◌+◌, ◌<◌, ◌≤◌, List, [], ◌∷◌, ◌++◌, length, take, drop, Ok, Err, Result, sym, refl, ap, ◌∙◌, subst, ap₂, arith}
-use mathlib.Core.Path.{subst⁻¹}
+use Rattle.std.proofs.Common.{◌≡◌, ℕ, ◌+◌, ◌<◌, ◌≤◌, List, [], ◌∷◌, ◌++◌, length, take, drop, Ok, Err, Result, refl, ap, ◌∙◌, ap₂, arith}
 use Rattle.std.proofs.lemmas.List.{take_all, length_push}
 use Rattle.model.specs.Trees as model
 use Rattle.model.specs.Trees.{Tree, Trees}
 use Rattle.program.specs.declared.parts.Parts.{Parts}
 use Rattle.program.specs.Parts.{parts_of}
 use Rattle.syntax.specs.declared.spec.TermNode.{TermNode}
-use Rattle.syntax.specs.Specs.{Term, Terms, none, more, count, nodes, nodes_all}
+use Rattle.syntax.specs.Specs.{Terms, none, more, count, nodes_all}
 use Rattle.terms.specs.declared.declarations.Declared.{Declared}
 use Rattle.terms.specs.declared.fault.TermFault.{TermFault}
 use Rattle.terms.specs.declared.table.TermTable.{TermTable}
 use Rattle.terms.specs.Shapes as shapes
 use Rattle.terms.specs.Shapes.{AllBelow}
 use Rattle.terms.specs.Terms.{tree_in, size, Grows}
-use Rattle.terms.specs.Numbering.{tree, trees, next, read, read_all}
+use Rattle.terms.specs.Numbering.{trees, next, read, read_all}
 use Rattle.terms.specs.Meanings.{Lists}
-use Rattle.terms.specs.Reads.{Refused, Noted, Sayable, SayableAll, Read, Reads, ReadAll, ReadsAll}
+use Rattle.terms.specs.Reads.{Refused, SayableAll, Reads, ReadAll, ReadsAll}
 use Rattle.terms.proofs.Nodes.{behind_term, stands_more, length_more, length_none}
-use Rattle.terms.proofs.Reading.{refused_next, refused_as, noted_as}
+use Rattle.terms.proofs.Reading.{refused_next, refused_as}
 
 -- the trees of some numbers, and others behind them
 abbrev trees_then : (ℕ → Tree) → List ℕ → Trees → Trees

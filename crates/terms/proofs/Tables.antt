@@ -1,9 +1,8 @@
 -- What a sound table gives of its rows.
-use Rattle.std.proofs.Common.{◌≡◌, ℕ, zero, suc, ◌<◌, List, [], ◌∷◌, map, length, get_or, sym, refl, ap, ◌∙◌, subst, arith}
+use Rattle.std.proofs.Common.{◌≡◌, ℕ, zero, suc, ◌<◌, List, [], ◌∷◌, length, get_or, sym, refl, ap, ◌∙◌, subst, arith}
 use Rattle.std.proofs.lemmas.List.{length-map}
 use Rattle.terms.specs.declared.term.TermRow.{TermRow}
-use Rattle.terms.specs.declared.term.TermRow.TheVariants.{Name, Compound}
-use Rattle.terms.specs.Shapes.{Shape, named, formed, grown, tree_of, AllBelow, numbers}
+use Rattle.terms.specs.Shapes.{Shape, named, grown, AllBelow, numbers}
 use Rattle.terms.specs.Rows.{shape_of, shapes, row_at, term_tree, Ordered, Formed, Distinct, Stands}
 use Rattle.terms.proofs.Numbered.{tree_grown, one_number, same_shape}
 

@@ -1,5 +1,5 @@
 -- A term whose types are good can be numbered, and what the declarations stand for then.
-use Rattle.std.proofs.Common.{◌≡◌, ℕ, zero, suc, ◌+◌, ◌<◌, ◌≤◌, Bool, true, false, cond, eqb, List, [], ◌∷◌, ◌++◌, map, length, get_or, drop, Some, None, Ok, Err, vec_items, Option, Result, sym, refl, ap, ◌∙◌, subst, ap₂, arith}
+use Rattle.std.proofs.Common.{◌≡◌, ℕ, suc, ◌<◌, ◌≤◌, Bool, true, false, cond, eqb, List, [], ◌∷◌, ◌++◌, map, length, get_or, drop, Some, None, Ok, Err, vec_items, Option, Result, sym, refl, ap, ◌∙◌, ap₂, arith}
 use mathlib.Core.Path.{subst⁻¹}
 use Rattle.model.specs.Trees.{Tree}
 use Rattle.syntax.specs.declared.spec.Name.{Name}
@@ -10,12 +10,12 @@ use Rattle.terms.specs.declared.declarations.Meaning.{Meaning}
 use Rattle.terms.specs.declared.declarations.Meaning.TheVariants as meaning
 use Rattle.terms.specs.declared.declarations.Start.{Start}
 use Rattle.terms.specs.declared.declarations.ValueType.{ValueType}
-use Rattle.terms.specs.declared.declarations.ValueType.TheVariants.{Number, Principal}
+use Rattle.terms.specs.declared.declarations.ValueType.TheVariants.{Number}
 use Rattle.terms.specs.declared.fault.TermFault.{TermFault}
 use Rattle.terms.specs.declared.fault.TermFault.TheVariants.{Limit, Undeclared, WrongType, NoMemory}
 use Rattle.terms.specs.declared.table.TermTable.{TermTable}
-use Rattle.terms.specs.Terms.{tree_in, size, Grows}
-use Rattle.terms.specs.Scope.{Scope, signature, bytes, number_of, meaning_of}
+use Rattle.terms.specs.Terms.{size, Grows}
+use Rattle.terms.specs.Scope.{Scope, signature, bytes, meaning_of}
 use Rattle.terms.specs.Typing.{and_then, fits, name_fits, applied_number, applied_fits, typed, typed_all}
 use Rattle.terms.specs.Numbering.{tree, read}
 use Rattle.terms.specs.Declaring.{with_terms, with_term}
@@ -23,7 +23,7 @@ use Rattle.terms.specs.Meanings.{Means, Lists, given_in, signature_in}
 use Rattle.terms.specs.Narrow.{Narrow, NarrowAll}
 use Rattle.terms.specs.Checked.{Checked}
 use Rattle.terms.specs.Reads.{SameNames, Refused, Sayable, SayableAll, Reads}
-use Rattle.terms.specs.Termed.{WithTerm, Termed}
+use Rattle.terms.specs.Termed.{Termed}
 use Rattle.terms.proofs.Naming.{named_there}
 
 then_ok : (a b : Result (Unit {0}) TermFault) → and_then a b ≡ Ok tt → b ≡ Ok tt

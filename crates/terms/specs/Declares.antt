@@ -1,5 +1,5 @@
 -- What reading a declaration does.
-use Rattle.std.specs.Prelude.{◌≡◌, ℕ, List, [], ◌∷◌, ◌++◌, length, drop, Ok, Err, vec_items, Option, Result}
+use Rattle.std.specs.Prelude.{◌≡◌, ℕ, List, [], ◌∷◌, ◌++◌, drop, Ok, Err, vec_items, Option, Result}
 use Rattle.syntax.specs.declared.spec.Declaration.{Declaration}
 use Rattle.syntax.specs.declared.spec.Name.{Name}
 use Rattle.syntax.specs.declared.spec.Spec.{Spec}

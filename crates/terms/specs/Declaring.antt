@@ -1,5 +1,5 @@
 -- The declarations, one after the other.
-use Rattle.std.specs.Prelude.{ℕ, min, Bool, true, false, cond, List, [], ◌∷◌, ◌++◌, length, is_some, Some, None, Ok, Err, codes, Option, Result, nat_le}
+use Rattle.std.specs.Prelude.{ℕ, min, cond, List, [], ◌∷◌, ◌++◌, length, is_some, Some, None, Ok, Err, codes, Option, Result, nat_le}
 use Rattle.model.specs.Trees.{Tree}
 use Rattle.syntax.specs.declared.spec.Name.{Name}
 use Rattle.syntax.specs.Specs as syntax
@@ -13,9 +13,9 @@ use Rattle.terms.specs.declared.limits.Limits.{Limits}
 use Rattle.terms.specs.declared.fault.TermFault.{TermFault}
 use Rattle.terms.specs.declared.fault.TermFault.TheVariants as term_fault
 use Rattle.terms.specs.declared.fault.DeclarationFault.{DeclarationFault}
-use Rattle.terms.specs.declared.fault.DeclarationFault.TheVariants.{Limit, Redeclared, Undeclared, WrongType, NoMemory}
+use Rattle.terms.specs.declared.fault.DeclarationFault.TheVariants.{Limit, Redeclared, WrongType}
 use Rattle.terms.specs.Refusals.{to_declaration}
-use Rattle.terms.specs.Scope.{Scope, Signature, Given, nothing_declared, bytes, eq_bytes, number_of, meaning_of, function_of}
+use Rattle.terms.specs.Scope.{Scope, Signature, nothing_declared, bytes, eq_bytes, number_of, meaning_of, function_of}
 use Rattle.terms.specs.Typing.{and_then, typed}
 use Rattle.terms.specs.Numbering.{tree, read}
 

@@ -1,5 +1,5 @@
 -- The tree that a term stands for, and the distinct terms in the order of first reading.
-use Rattle.std.specs.Prelude.{ℕ, Bool, true, false, cond, ◌||◌, List, [], ◌∷◌, ◌++◌, length, Some, None, Ok, Err, Option, Result, nat_le}
+use Rattle.std.specs.Prelude.{ℕ, Bool, false, cond, ◌||◌, List, [], ◌∷◌, ◌++◌, length, Some, None, Ok, Err, Option, Result, nat_le}
 use Rattle.std.specs.Option.{unwrap_or}
 use Rattle.model.specs.Trees as model
 use Rattle.model.specs.Trees.{Tree, Trees, tupled, applied, leaf, node, eq_tree}

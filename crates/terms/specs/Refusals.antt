@@ -1,5 +1,5 @@
 -- The number, the layer and the place of each fault of the declarations.
-use Rattle.std.specs.Prelude.{ℕ, None, Option}
+use Rattle.std.specs.Prelude.{None, Option}
 use Rattle.text.specs.declared.fault.Refusal.{Refusal}
 use Rattle.syntax.specs.Refusals.{refuse}
 use Rattle.terms.specs.declared.fault.TermFault.{TermFault}

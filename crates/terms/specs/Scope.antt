@@ -8,7 +8,7 @@ use Rattle.terms.specs.declared.declarations.Meaning.{Meaning}
 use Rattle.terms.specs.declared.declarations.Meaning.TheVariants.{Value, Function}
 use Rattle.terms.specs.declared.declarations.Right.{Right}
 use Rattle.terms.specs.declared.declarations.ValueType.{ValueType}
-use Rattle.terms.specs.declared.declarations.ValueType.TheVariants.{Number, Principal}
+use Rattle.terms.specs.declared.declarations.ValueType.TheVariants.{Number}
 
 -- a function: its name, who may apply it and whether it hides its arguments, and its type
 pub record Signature : Type 0 where

@@ -1,5 +1,5 @@
 -- The types of a term: each node before its parts, and those from left to right.
-use Rattle.std.specs.Prelude.{ℕ, Bool, true, false, cond, not, List, [], ◌∷◌, length, Some, None, Ok, Err, Option, Result, ◌==◌}
+use Rattle.std.specs.Prelude.{ℕ, Bool, true, false, cond, List, [], ◌∷◌, length, Some, None, Ok, Err, Option, Result, ◌==◌}
 use Rattle.syntax.specs.declared.spec.Name.{Name}
 use Rattle.syntax.specs.Specs.{Term, name, tuple, crypt, apply, Terms, none, more, count}
 use Rattle.terms.specs.declared.declarations.Meaning.{Meaning}
@@ -8,7 +8,7 @@ use Rattle.terms.specs.declared.declarations.ValueType.{ValueType}
 use Rattle.terms.specs.declared.declarations.ValueType.TheVariants.{Number, Principal}
 use Rattle.terms.specs.declared.fault.TermFault.{TermFault}
 use Rattle.terms.specs.declared.fault.TermFault.TheVariants.{Undeclared, WrongType}
-use Rattle.terms.specs.Scope.{Scope, Signature, signature, meaning_of}
+use Rattle.terms.specs.Scope.{Scope, signature, meaning_of}
 
 -- the first fault of two steps
 abbrev pub and_then : {A B : Type 0} → Result A TermFault → Result B TermFault → Result B TermFault

@@ -1,4 +1,4 @@
-use Rattle.std.proofs.Common.{false, not, get_or, sym, ap, ◌∙◌}
+use Rattle.std.proofs.Common.{false, not, get_or, sym, ap}
 use Rattle.model.proofs.Scans.{scan_hit, scan_pass, scan_end}
 use Rattle.roles.specs.Composed.{all_in}
 use Rattle.roles.proofs.Marks.{all_step}

@@ -1,5 +1,4 @@
-use Rattle.std.proofs.Common.{false, not, sym, refl, ◌∙◌}
-use Rattle.syntax.specs.Names.{inner, are_inner}
+use Rattle.std.proofs.Common.{sym, ◌∙◌}
 use Rattle.syntax.proofs.Inner.{inner_stop, inner_pass, inner_end}
 use Rattle.syntax.proofs.name.all_inner.Goals as goal
 

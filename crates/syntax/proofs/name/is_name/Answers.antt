@@ -1,4 +1,4 @@
-use Rattle.std.proofs.Common.{sym, refl, arith, rules}
+use Rattle.std.proofs.Common.{sym, refl, rules}
 use Rattle.syntax.proofs.Inner.{name_rest}
 use Rattle.syntax.proofs.name.is_name.Goals as goal
 

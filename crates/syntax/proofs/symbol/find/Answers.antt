@@ -1,4 +1,4 @@
-use Rattle.std.proofs.Common.{[], get_or, Some, sym, refl, ap, ◌∙◌}
+use Rattle.std.proofs.Common.{get_or, Some, ◌∙◌}
 use Rattle.std.specs.Str.{bytes_eq}
 use Rattle.syntax.specs.Symbols.{found, entries}
 use Rattle.model.proofs.Scans.{scan_hit, scan_pass, scan_end}

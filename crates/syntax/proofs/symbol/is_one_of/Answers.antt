@@ -1,4 +1,4 @@
-use Rattle.std.proofs.Common.{true, [], get_or, sym, refl, ap, ◌∙◌}
+use Rattle.std.proofs.Common.{true, get_or, ◌∙◌}
 use Rattle.std.specs.Str.{bytes_eq}
 use Rattle.syntax.specs.Symbols.{one_of, spellings}
 use Rattle.model.proofs.Scans.{scan_hit, scan_pass, scan_end}

@@ -1,5 +1,5 @@
-use Rattle.std.proofs.Common.{cond, sym, refl, ap, ◌∙◌}
-use Rattle.syntax.specs.Symbols.{other, carried}
+use Rattle.std.proofs.Common.{cond, sym, ap, ◌∙◌}
+use Rattle.syntax.specs.Symbols.{other}
 use Rattle.syntax.specs.declared.symbol.Symbol.TheVariants as symbols
 use Rattle.syntax.proofs.symbol.symbol_of.Goals as goal
 

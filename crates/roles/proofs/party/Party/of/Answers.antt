@@ -1,6 +1,5 @@
-use Rattle.std.proofs.Common.{◌≡◌, ◌+◌, ◌++◌, drop, vec_items, sym, ap, ◌∙◌, ap₂, rules}
+use Rattle.std.proofs.Common.{◌≡◌, ◌+◌, ◌++◌, drop, vec_items, ◌∙◌, ap₂, rules}
 use mathlib.Core.Path.{subst⁻¹}
-use Rattle.roles.specs.declared.party.Function.{Function}
 use Rattle.roles.specs.Starting.{functions_from}
 use Rattle.roles.proofs.Functions.{party_function, rows_from, rows_same, rows_more, rows_end}
 use Rattle.roles.proofs.party.Party.of.Goals as goal

@@ -1,4 +1,4 @@
-use Rattle.std.proofs.Common.{◌≡◌, ◌≤◌, ◌++◌, map, length, drop, vec_items}
+use Rattle.std.proofs.Common.{◌≡◌, ◌++◌, map, length, drop, vec_items}
 use Rattle.roles.specs.Ended.{row, KeepsRest}
 use Rattle.roles.proofs.role.Role.end_line.Given as goal
 

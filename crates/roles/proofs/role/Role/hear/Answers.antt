@@ -1,4 +1,4 @@
-use Rattle.std.proofs.Common.{Err, vec_items, sym, refl}
+use Rattle.std.proofs.Common.{Err}
 use mathlib.Core.Path.{subst⁻¹}
 use Rattle.terms.specs.Terms.{tree_in}
 use Rattle.roles.specs.Players.{player_of, Plays}

@@ -1,4 +1,4 @@
-use Rattle.std.proofs.Common.{length, set, vec_items, arith}
+use Rattle.std.proofs.Common.{set, vec_items, arith}
 use Rattle.std.proofs.lemmas.List.{length-set}
 use Rattle.roles.proofs.AllFit.{all_fit_grows, all_fit_at, all_fit_set, all_keep_set}
 use Rattle.roles.proofs.translation.Translation.message.Goals as goal

@@ -1,13 +1,11 @@
-use Rattle.std.proofs.Common.{◌≡◌, Ok, Err, vec_items, sym, refl, ap, ◌∙◌, subst, arith}
+use Rattle.std.proofs.Common.{Ok, vec_items, sym, ap, ◌∙◌, arith}
 use Rattle.std.proofs.lemmas.Result.{err_from_is_err_and}
-use Rattle.syntax.specs.declared.source.Item.TheVariants as items
-use Rattle.syntax.specs.Seeing.{item}
 use Rattle.syntax.proofs.Nodes as node
 use Rattle.syntax.specs.Shape.{term, terms}
 use Rattle.syntax.specs.Specs.{nodes, nodes_all}
 use Rattle.syntax.specs.Specs as tables
 use Rattle.syntax.specs.Seeing.{Grown}
-use Rattle.syntax.proofs.Left.{left_start, left_more, left_break, left_end}
+use Rattle.syntax.proofs.Left.{left_more, left_break, left_end}
 use Rattle.syntax.proofs.Terming as terming
 use Rattle.syntax.proofs.source.Source.+application_ciphertext_term_terms_tuple.Goals as goal
 

@@ -1,15 +1,7 @@
-use Rattle.std.proofs.Common.{◌≡◌, [], ◌∷◌, ◌++◌, length, Ok, Err, vec_items, sym, refl, ap, ◌∙◌, subst, append-nil, arith}
+use Rattle.std.proofs.Common.{[], ◌∷◌, Ok, vec_items, sym, ap, ◌∙◌}
 use Rattle.std.proofs.lemmas.Result.{err_from_is_err_and}
-use Rattle.syntax.specs.declared.source.Item.TheVariants as items
-use Rattle.syntax.specs.Seeing.{item}
 use Rattle.syntax.proofs.Nodes as node
-use Rattle.syntax.specs.Seeing.{Declares, Lengthens}
-use Rattle.syntax.specs.Shape.{and_then, a_name, names, term, shared_as, declaration, declarations, label, line, lines}
-use Rattle.syntax.specs.Specs.{value, function, knows, everybody, nodes}
-use Rattle.syntax.specs.declared.spec.Declaration.TheVariants as rows
-use Rattle.syntax.proofs.Answering.{refuses, refused_first, refuses_then, goes_on}
-use Rattle.syntax.proofs.Growing as growing
-use Rattle.syntax.proofs.Counts as counts
+use Rattle.syntax.specs.Seeing.{Declares}
 use Rattle.syntax.proofs.Declaring as declaring
 use Rattle.syntax.proofs.source.Source.declaration.Goals as goal
 

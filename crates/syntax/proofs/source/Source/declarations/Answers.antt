@@ -1,12 +1,8 @@
-use Rattle.std.proofs.Common.{◌≡◌, [], ◌∷◌, ◌++◌, length, Ok, Err, vec_items, sym, refl, ap, ◌∙◌, subst, append-nil, arith}
+use Rattle.std.proofs.Common.{[], ◌∷◌, vec_items}
 use Rattle.std.proofs.lemmas.Result.{err_from_is_err_and}
-use Rattle.syntax.specs.Seeing.{Declares, Lengthens}
-use Rattle.syntax.specs.Shape.{and_then, a_name, names, term, shared_as, declaration, declarations, label, line, lines}
-use Rattle.syntax.specs.Specs.{value, function, knows, everybody, nodes}
-use Rattle.syntax.specs.declared.spec.Declaration.TheVariants as rows
-use Rattle.syntax.proofs.Answering.{refuses, refused_first, refuses_then, goes_on}
+use Rattle.syntax.specs.Seeing.{Declares}
+use Rattle.syntax.specs.Shape.{declaration, declarations}
 use Rattle.syntax.proofs.Growing as growing
-use Rattle.syntax.proofs.Counts as counts
 use Rattle.syntax.proofs.Declaring as declaring
 use Rattle.syntax.proofs.Left.{left_more, left_break, left_end}
 use Rattle.syntax.proofs.source.Source.declarations.Goals as goal

@@ -1,7 +1,5 @@
-use Rattle.std.proofs.Common.{◌≡◌, Ok, Err, vec_items, sym, refl, ap, ◌∙◌, subst, arith}
-use Rattle.std.proofs.lemmas.Result.{err_from_is_err_and}
+use Rattle.std.proofs.Common.{Ok, vec_items, refl, arith}
 use Rattle.syntax.specs.declared.source.Item.TheVariants as items
-use Rattle.syntax.specs.declared.fault.ShapeFault.TheVariants.{NotCarried, NoName}
 use Rattle.syntax.proofs.Trunks.{stands_inside}
 use Rattle.syntax.proofs.Nodes.{item_seen, quoted_kind, barred_kind, bracket_kind}
 use Rattle.syntax.proofs.source.Source.item.Goals as goal

@@ -1,7 +1,5 @@
-use Rattle.std.proofs.Common.{◌≡◌, Ok, Err, vec_items, sym, refl, ap, ◌∙◌, subst, arith}
+use Rattle.std.proofs.Common.{Ok, vec_items, sym, ap, ◌∙◌}
 use Rattle.std.proofs.lemmas.Result.{err_from_is_err_and}
-use Rattle.syntax.specs.declared.source.Item.TheVariants as items
-use Rattle.syntax.specs.Seeing.{item}
 use Rattle.syntax.proofs.Nodes as node
 use Rattle.syntax.specs.Shape.{a_name}
 use Rattle.syntax.proofs.source.Source.name.Goals as goal

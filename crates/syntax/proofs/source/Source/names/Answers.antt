@@ -1,10 +1,10 @@
-use Rattle.std.proofs.Common.{◌≡◌, [], ◌∷◌, Ok, Err, vec_items, sym, refl, ap, ◌∙◌, subst, append-nil, arith}
+use Rattle.std.proofs.Common.{[], ◌∷◌, vec_items, sym, append-nil}
 use Rattle.std.proofs.lemmas.Result.{err_from_is_err_and}
 use Rattle.syntax.specs.Shape.{a_name, names}
 use Rattle.syntax.specs.Seeing.{Grown}
 use Rattle.syntax.proofs.Answering.{refuses}
 use Rattle.syntax.proofs.Growing.{grown_more}
-use Rattle.syntax.proofs.Left.{left_start, left_more, left_break, left_end}
+use Rattle.syntax.proofs.Left.{left_more, left_break, left_end}
 use Rattle.syntax.proofs.Naming as naming
 use Rattle.syntax.proofs.source.Source.names.Goals as goal
 

@@ -1,12 +1,8 @@
-use Rattle.std.proofs.Common.{◌≡◌, ◌<◌, [], ◌∷◌, Ok, Err, vec_items, sym, refl, ap, ◌∙◌, subst, arith, rules}
+use Rattle.std.proofs.Common.{◌≡◌, Ok, Err, vec_items, sym, ap, ◌∙◌, rules}
 use Rattle.std.proofs.lemmas.Result.{err_from_is_err_and}
-use Rattle.text.specs.Trees.{Tree, Trees, none, more}
 use Rattle.syntax.specs.declared.fault.ShapeFault.TheVariants.{NotCarried}
-use Rattle.syntax.specs.declared.symbol.Section.TheVariants as sections
 use Rattle.syntax.specs.declared.symbol.Symbol.TheVariants as symbols
-use Rattle.syntax.specs.Seeing.{Declares, Lengthens}
 use Rattle.syntax.proofs.Shaping as shaping
-use Rattle.syntax.proofs.Trunks.{table_stands, fill_first, fill_rest}
 use Rattle.syntax.proofs.source.Source.section.Goals as goal
 
 pub returns-in_err-bracket : goal.returns-in_err-bracket

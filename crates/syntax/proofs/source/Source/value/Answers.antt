@@ -1,13 +1,11 @@
-use Rattle.std.proofs.Common.{◌≡◌, false, [], ◌∷◌, ◌++◌, length, Ok, Err, vec_items, sym, refl, ap, ◌∙◌, subst, append-nil, arith}
+use Rattle.std.proofs.Common.{false, [], ◌∷◌, Ok, Err, vec_items, sym, refl, ap, append-nil}
 use Rattle.std.proofs.lemmas.Result.{err_from_is_err_and}
-use Rattle.syntax.specs.Seeing.{Declares, Lengthens}
-use Rattle.syntax.specs.Shape.{and_then, a_name, names, term, shared_as, declaration, declarations, label, line, lines}
-use Rattle.syntax.specs.Specs.{value, function, knows, everybody, nodes}
-use Rattle.syntax.specs.declared.spec.Declaration.TheVariants as rows
-use Rattle.syntax.proofs.Answering.{refuses, refused_first, refuses_then, goes_on}
+use Rattle.syntax.specs.Seeing.{Declares}
+use Rattle.syntax.specs.Shape.{and_then, a_name}
+use Rattle.syntax.specs.Specs.{value}
+use Rattle.syntax.proofs.Answering.{refused_first}
 use Rattle.syntax.proofs.Growing as growing
 use Rattle.syntax.proofs.Counts as counts
-use Rattle.syntax.proofs.Declaring as declaring
 use Rattle.syntax.proofs.source.Source.value.Goals as goal
 
 pub returns-in_err-counted : goal.returns-in_err-counted

@@ -1,4 +1,4 @@
-use Rattle.std.proofs.Common.{vec_items, sym, ap, ◌∙◌, arith}
+use Rattle.std.proofs.Common.{vec_items, sym, arith}
 use Rattle.syntax.proofs.Placed.{place_past, place_read}
 use Rattle.syntax.proofs.spec.Spec.place.Goals as goal
 

@@ -1,4 +1,4 @@
-use Rattle.std.proofs.Common.{◌+◌, Ok, Err, vec_items, refl, ◌∙◌, subst, arith}
+use Rattle.std.proofs.Common.{Ok, Err, vec_items, refl, subst, arith}
 use mathlib.Core.Path.{subst⁻¹}
 use Rattle.std.proofs.lemmas.Result.{err_from_is_err_and}
 use Rattle.program.specs.Parts.{parts_of}

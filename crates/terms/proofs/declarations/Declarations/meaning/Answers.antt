@@ -1,4 +1,4 @@
-use Rattle.std.proofs.Common.{Some, vec_items, ap, ◌∙◌, arith, rules}
+use Rattle.std.proofs.Common.{Some, vec_items, ap, ◌∙◌, rules}
 use Rattle.terms.specs.declared.declarations.Meaning.TheVariants.{Function}
 use Rattle.terms.specs.Scope.{bytes}
 use Rattle.terms.proofs.Naming.{meaning_there, meaning_nowhere}

@@ -1,4 +1,4 @@
-use Rattle.std.proofs.Common.{vec_items, ◌∙◌, subst, arith}
+use Rattle.std.proofs.Common.{vec_items, ◌∙◌, subst}
 use Rattle.std.proofs.lemmas.List.{take_all}
 use Rattle.program.specs.Actions.{head_of}
 use Rattle.terms.specs.Shapes.{formed}

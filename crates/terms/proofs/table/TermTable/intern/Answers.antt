@@ -3,7 +3,7 @@ use mathlib.Core.Path.{subst⁻¹}
 use Rattle.std.proofs.lemmas.List.{length_push}
 use Rattle.terms.specs.Rows.{shape_of}
 use Rattle.terms.specs.Interned.{Fits, Absent, At, Numbers}
-use Rattle.terms.proofs.Interning.{already, pushed, Sound, sound_push}
+use Rattle.terms.proofs.Interning.{already, pushed, sound_push}
 use Rattle.terms.proofs.table.TermTable.intern.Goals as goal
 
 pub find_row-requires : goal.find_row-requires

@@ -1,4 +1,4 @@
-use Rattle.std.proofs.Common.{vec_items, sym, arith, rules}
+use Rattle.std.proofs.Common.{vec_items, sym, rules}
 use Rattle.std.proofs.lemmas.List.{get_or_read, get_or_past}
 use Rattle.terms.proofs.Tables.{stands}
 use Rattle.terms.proofs.table.TermTable.row.Goals as goal
