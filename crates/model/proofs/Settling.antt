@@ -32,7 +32,7 @@ module _ (P : Party) (makes : ℕ → Bool) (S : Tree → Type 0) where
       nothing_more true k t = omega arith
       nothing_more false k t = elim t [ ]
 
--- a one_way application shows nothing
+-- a one-way application shows nothing
 shown_none : (b : Bool) (ts : Trees) (u : Tree) → T b → ¬ (u among (cond b none ts))
 shown_none true ts u t i = i
 shown_none false ts u t i = t
@@ -81,7 +81,7 @@ module _ (P : Party) (H S : Tree → Type 0) (whole : Whole S) where
   unmade : (n : ℕ) → T (none_made n) → S (leaf n) → Derives P H (leaf n)
   unmade n m i = elim m [ ]
 
-  -- a one_way application is built again
+  -- a one-way application is built again
   checked : (r : ℕ) (f : ℕ) (ts : Trees) (s : Role) → Marked (node (applied f) ts) s → T (P.one_way f)
       → (c : ComposedAll) → GoodAll P none_made S s ts c → Turned s (check_again P r (applied f) c s) (sizes ts)
   unfolding check_again

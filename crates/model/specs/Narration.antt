@@ -38,7 +38,7 @@ calls = begin 0 (some k ∷ []) (5 ∷ []) ∷ begin 1 (some k ∷ []) [] ∷ sa
 abbrev pub choice : ℕ → Tree
 choice a = cond (a == 3) (leaf 5) k
 
--- role 0 says the one_way h(n), and then n
+-- role 0 says the one-way h(n), and then n
 abbrev pub h : Tree → Tree
 h t = node (applied 0) (more t none)
 

@@ -8,7 +8,7 @@ use Rattle.model.specs.Specifications.{Line, Specification, message, makes}
 use Rattle.model.specs.Programs.{program}
 use Rattle.model.specs.Tape.{encode, tape_cost}
 
--- function 0 is one_way, and everybody may apply every function
+-- function 0 is one-way, and everybody may apply every function
 abbrev pub plain : Party
 plain = record { secret = λ f. false; one_way = λ f. (f == 0); right = λ f. false }
 
@@ -26,7 +26,7 @@ there t = record { sender = 0; receiver = 1; message = t }
 abbrev pub back : Tree → Line
 back t = record { sender = 1; receiver = 0; message = t }
 
--- the names of a nonce and a key; a pair; the one_way application
+-- the names of a nonce and a key; a pair; the one-way application
 abbrev pub n : Tree
 n = leaf 3
 
@@ -53,7 +53,7 @@ pub record WorkedExamples : Type 0 where
       × (¬ Derives P (Holdings (hears (starts []) (crypt (leaf text) (leaf key)))) (leaf key))
   -- under a tuple as key, whose parts are held, the text derives
   pub tuple_as_key : (P : Party) (text a b : Tree) → Derives P (Holdings (hears (starts (a ∷ b ∷ [])) (crypt text (pair a b)))) text
-  -- line 1 brings the one_way h(n), line 2 n: line 2 ends with the application made again and compared
+  -- line 1 brings the one-way h(n), line 2 n: line 2 ends with the application made again and compared
   pub one_way_explained : program (two_roles none_barred (there (h n) ∷ there n ∷ [])) 1
       ≡ (1, hear 0) ∷ (2, hear 1) ∷ (2, make 2 (applied 0) (1 ∷ [])) ∷ (2, same 2 0) ∷ []
   -- line 1 brings n under k, line 2 k: line 2 ends with the ciphertext opened
