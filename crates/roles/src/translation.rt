@@ -89,7 +89,8 @@ impl Translation {
         receiver: usize,
     ) -> Result<(), LineFault>
         requires { (AllFit self.old.declarations.terms self.old.roles.items) × ((sender < length self.old.roles.items) × (receiver < length self.old.roles.items)) }
-        ensures { AllKeep self.new.declarations.terms self.new.roles.items result }
+        ensures keeps { AllKeep self.new.declarations.terms self.new.roles.items result }
+        ensures comes { (U : Scope) → Means self.old.declarations U → (t : Term) → TermAt input.entry.spec.now.terms.items message t → Comes (stages.message input.entry.limits input.entry.text.now number t sender receiver (stage_of self.old U)) self.new result }
     {
         let at = input.spec.place(message);
         let limits = input.limits;
