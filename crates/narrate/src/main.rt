@@ -5,15 +5,16 @@ use anyhow::anyhow;
 use roles::translate::translate;
 use std::io;
 use std::io::{Read, Write};
+use std::process::ExitCode;
 use terms::limits::Limits;
 
 // a text is decided by its first so many bytes
 const ENOUGH: usize = 65536;
 
-fn main(rt: HostRuntime) -> anyhow::Result<()> {
+fn main(rt: HostRuntime) -> anyhow::Result<ExitCode> {
     match run(&rt)? {
-        Answer::Translated => Ok(()),
-        Answer::Refused => Err(anyhow!("refused")),
+        Answer::Translated => Ok(ExitCode::SUCCESS),
+        Answer::Refused => Ok(ExitCode::FAILURE),
     }
 }
 
