@@ -41,9 +41,9 @@ Comes q T (Ok x) = Staged q T
 Comes q T (Err f) = Refused q f
 
 -- a role has its place
-abbrev pub Finds : ℕ → Result Stage LineFault → Translation → Result ℕ LineFault → Type 0
-Finds n q T (Ok k) = Staged q T × (k ≡ place_among n (players_of T)) × (k < length (vec_items T.roles))
-Finds n q T (Err f) = Refused q f
+abbrev pub FindsRole : ℕ → Result Stage LineFault → Translation → Result ℕ LineFault → Type 0
+FindsRole n q T (Ok k) = Staged q T × (k ≡ place_among n (players_of T)) × (k < length (vec_items T.roles))
+FindsRole n q T (Err f) = Refused q f
 
 -- a term whose nodes stand at a place
 pub record TermAt (terms : List TermNode) (i : ℕ) (t : Term) : Type 0 where

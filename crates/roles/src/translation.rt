@@ -5,7 +5,7 @@ ghost use Rattle.terms.specs.Scope.{Scope};
 ghost use Rattle.terms.specs.Meanings.{Means};
 ghost use Rattle.roles.specs.AllRoles.{AllFit, AllKeep, Placed};
 ghost use Rattle.roles.specs.Stages as stages;
-ghost use Rattle.roles.specs.Staging.{stage_of, TermAt, Comes, Finds};
+ghost use Rattle.roles.specs.Staging.{stage_of, TermAt, Comes, FindsRole};
 
 use crate::label::fresh_label;
 use crate::line_fault::LineFault;
@@ -63,7 +63,7 @@ impl Translation {
     fn role(&mut self, input: Input, number: u8, name: Name) -> Result<usize, LineFault>
         requires { AllFit self.old.declarations.terms self.old.roles.items }
         ensures placed { Placed self.new.declarations.terms self.old.roles.items self.new.roles.items result }
-        ensures finds { (U : Scope) → Means self.old.declarations U → Finds number (stages.with_role input.entry.limits input.entry.text.now number name (stage_of self.old U)) self.new result }
+        ensures finds { (U : Scope) → Means self.old.declarations U → FindsRole number (stages.with_role input.entry.limits input.entry.text.now number name (stage_of self.old U)) self.new result }
     {
         let place = self.roles.len();
         for earlier in 0..place {
