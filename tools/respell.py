@@ -30,6 +30,7 @@ WORDS = {"in-ok": "in_ok", "in-err": "in_err", "in-default": "in_default", "inva
 OTHERWISE = {
     "is-failed": "IsFailed",
     "Full-is": "full_is",
+    "getD-behind": "get_or_behind",
     "declared-count": "has_declared_count",
     "all-inner": "are_inner",
     "shared-type": "shared_as",

@@ -59,15 +59,15 @@ fill_some rs parts none f l = let b = f.1 in absurd (omega arith)
 fill_some rs parts (more t ts) f l = (t, ts, refl)
 
 -- The rows of a tree stand where they are in the table.
-getD_behind : (xs : List Node) (x : Node) (ys : List Node) → get_or (xs ++ (x ∷ ys)) (length xs) no_row ≡ x
-getD_behind [] x ys = refl
-getD_behind (w ∷ xs) x ys = getD_behind xs x ys
+get_or_behind : (xs : List Node) (x : Node) (ys : List Node) → get_or (xs ++ (x ∷ ys)) (length xs) no_row ≡ x
+get_or_behind [] x ys = refl
+get_or_behind (w ∷ xs) x ys = get_or_behind xs x ys
 
 row_behind : (rs front : List Node) (x : Node) (back : List Node) (i : ℕ) → length front ≡ i → rs ≡ front ++ (x ∷ back) → Row rs i x.at x.end x.kind
 row_behind rs front x back i l e =
     let n = ap length e in
     let m = length-append front (x ∷ back) in
-    record { inside = omega arith; is = ap (λ z. get_or z i no_row) e ∙ subst (λ k. get_or (front ++ (x ∷ back)) k no_row ≡ x) l (getD_behind front x back) }
+    record { inside = omega arith; is = ap (λ z. get_or z i no_row) e ∙ subst (λ k. get_or (front ++ (x ∷ back)) k no_row ≡ x) l (get_or_behind front x back) }
 
 mutual
   unfolding Stands rows size
