@@ -30,20 +30,20 @@ module _ (S : Specification) (r : ℕ) where
   P = S.party r
 
   -- one duty more
-  abbrev Goes_on : Role → Role → Stock → List Tree → List ℕ → List Tree → List ℕ → List Duty → Type 0
-  Goes_on s s' h vs ns vs' ns' [] = Unit {0}
-  Goes_on s s' h vs ns vs' ns' (d ∷ ds) =
+  abbrev GoesOn : Role → Role → Stock → List Tree → List ℕ → List Tree → List ℕ → List Duty → Type 0
+  GoesOn s s' h vs ns vs' ns' [] = Unit {0}
+  GoesOn s s' h vs ns vs' ns' (d ∷ ds) =
       Fit (message S) d s → next_role (message S) P d s ≡ some s' → Fed (λ t v. Unit {0}) (takes (message S) P d) vs vs'
       → Fed (λ a k. Unit {0}) (names d s s') ns ns' → Living S r s' ds (add h (takes (message S) P d) vs (names d s s') ns)
 
   module _ (s s' : Role) (vs : List Tree) (ns : List ℕ) (vs' : List Tree) (ns' : List ℕ) where
-    from_start : (xs : List Duty) → xs ≡ duties S r → Goes_on s s' nothing_held vs ns vs' ns' xs
-    from_start xs e = subst⁻¹ (Goes_on s s' nothing_held vs ns vs' ns') e (go (ltb r S.roles) (ltb→lt r S.roles))
+    from_start : (xs : List Duty) → xs ≡ duties S r → GoesOn s s' nothing_held vs ns vs' ns' xs
+    from_start xs e = subst⁻¹ (GoesOn s s' nothing_held vs ns vs' ns') e (go (ltb r S.roles) (ltb→lt r S.roles))
       where
         ts : List Tree
         ts = S.knows r
 
-        go : (b : Bool) → (T b → r < S.roles) → Goes_on s s' nothing_held vs ns vs' ns' (cond b (begin ts ∷ own S r) [])
+        go : (b : Bool) → (T b → r < S.roles) → GoesOn s s' nothing_held vs ns vs' ns' (cond b (begin ts ∷ own S r) [])
         go true g = λ f q i j.
             inr (
               starts ts,
@@ -56,7 +56,7 @@ module _ (S : Specification) (r : ℕ) where
         go false g = tt
 
     in_life : (h : Stock) (d : Duty) (ds : List Duty) (l : Life) → Script P l s (firsts h.taken) (firsts h.made) → IsLine d → Every IsLine ds
-        → life_on S l (d ∷ ds) ≡ life S r → r < S.roles → Goes_on s s' h vs ns vs' ns' (d ∷ ds)
+        → life_on S l (d ∷ ds) ≡ life S r → r < S.roles → GoesOn s s' h vs ns vs' ns' (d ∷ ds)
     in_life h (begin ts) ds l k i is e m f q fi fn = elim i [ ]
     in_life h (listen n) ds l k i is e m f q fi fn =
         let t = message S n in
@@ -89,8 +89,8 @@ module _ (S : Specification) (r : ℕ) where
             )
         go (failed u) p w = absurd (no_some w)
 
-    pub living_on : (h : Stock) (d : Duty) (ds : List Duty) → Living S r s (d ∷ ds) h → Goes_on s s' h vs ns vs' ns' (d ∷ ds)
-    living_on h d ds (inl x) = subst⁻¹ (λ k. Goes_on s s' k vs ns vs' ns' (d ∷ ds)) x.1 (from_start (d ∷ ds) x.2)
+    pub living_on : (h : Stock) (d : Duty) (ds : List Duty) → Living S r s (d ∷ ds) h → GoesOn s s' h vs ns vs' ns' (d ∷ ds)
+    living_on h d ds (inl x) = subst⁻¹ (λ k. GoesOn s s' k vs ns vs' ns' (d ∷ ds)) x.1 (from_start (d ∷ ds) x.2)
     living_on h d ds (inr (l, k, i, e, m)) = in_life h d ds l k i.0 i.1 e m
 
   -- the terms held are the holdings of the life so far

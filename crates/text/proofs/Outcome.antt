@@ -19,8 +19,8 @@ abbrev Nodes : Type 0
 Nodes = List (ℕ × ℕ)
 
 -- Some bytes go on from these and complete the state; all that do so have some property.
-abbrev pub Goes_on : State → ℕ → List ℕ → Type 0
-Goes_on s at bs = (more : List ℕ) × (T : Tree) × Completes s (spot at (bs ++ more)) T × Bytes more
+abbrev pub GoesOn : State → ℕ → List ℕ → Type 0
+GoesOn s at bs = (more : List ℕ) × (T : Tree) × Completes s (spot at (bs ++ more)) T × Bytes more
 
 abbrev pub AllOn : State → ℕ → List ℕ → (Tree → Type 0) → Type 0
 AllOn s at bs P = (more : List ℕ) (T : Tree) → Completes s (spot at (bs ++ more)) T → P T
@@ -34,7 +34,7 @@ pub record BrokenFrom (at : ℕ) (s : State) (bs : List ℕ) (p : ℕ) : Type 0 
   pub taken : ℕ
   pub place : p ≡ at + taken
   pub within : taken ≤ length bs
-  pub begins : Goes_on s at (take taken bs)
+  pub begins : GoesOn s at (take taken bs)
   pub ends : taken < length bs → AllOn s at (take (suc taken) bs) (λ T. ⊥)
   pub unfinished : taken ≡ length bs → (T : Tree) → Completes s (spot at bs) T → ⊥
   pub fits : AllOn s at (take taken bs) (FitsBefore p)
@@ -43,7 +43,7 @@ pub record LimitFrom (at : ℕ) (s : State) (bs : List ℕ) (p : ℕ) : Type 0 w
   pub taken : ℕ
   pub place : p ≡ at + taken
   pub within : taken < length bs
-  pub begins : Goes_on s at (take (suc taken) bs)
+  pub begins : GoesOn s at (take (suc taken) bs)
   pub passes : AllOn s at (take (suc taken) bs) (Passes p)
 
 abbrev pub Outcome : ℕ → State → List ℕ → Result Tree TextFault → Type 0
