@@ -26,7 +26,8 @@ PLACES = re.compile(r"^use [^\n{]*\.Goals\.\{([^}]*)\}", re.M)
 QUIET = re.compile(r'(--[^\n]*|//[^\n]*|\{-.*?-\}|b?"(?:[^"\\\n]|\\.)*")', re.S)
 MADE = ("Answers.antt", "Invariants.antt", "Choices.antt")
 WORDS = {"in-ok": "in_ok", "in-err": "in_err", "in-default": "in_default", "invariant-of": "invariant_of", "in-rest": "in_rest"}
-# a type that was spelled in small letters, and definitions whose names would be those of functions beside them
+# a type that was spelled in small letters, an argument that was not, a lemma named for a word of the library that has another
+# name now, and definitions whose names would be those of functions beside them
 OTHERWISE = {
     "is-failed": "IsFailed",
     "Full-is": "full_is",
