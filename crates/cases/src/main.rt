@@ -6,7 +6,7 @@ use roles::translate::translate;
 use roles::translation::Translation;
 use std::{fmt, fs};
 use terms::limits::Limits;
-use text::fault::Refusal;
+use text::refusal::Refusal;
 
 fn main(rt: HostRuntime) -> anyhow::Result<()> {
     run(&rt)
@@ -26,12 +26,7 @@ impl fmt::Display for Outcome {
         match self {
             Outcome::Accepted => f.write_str("accepted"),
             Outcome::Differs => f.write_str("differs"),
-            Outcome::Refused(refusal) => {
-                let number = refusal.number;
-                let layer = refusal.layer;
-                let place = refusal.place;
-                write!(f, "refused {number} {layer} {place}")
-            }
+            Outcome::Refused(refusal) => refusal.fmt(f),
         }
     }
 }
@@ -51,8 +46,8 @@ fn run(rt: &HostRuntime) -> anyhow::Result<()> {
 
 fn try_case(rt: &HostRuntime, name: &str) -> anyhow::Result<Outcome> {
     let text = fs::read(rt, format!(in rt.alloc(); "{name}.evl")?)?;
-    match translate(rt.alloc(), text.as_slice(), Limits::standard()) {
-        Ok(translation) => compare(rt, name, text.as_slice(), &translation),
+    match translate(rt.alloc(), &text, Limits::standard()) {
+        Ok(translation) => compare(rt, name, &text, &translation),
         Err(fault) => match fault.refusal() {
             Some(refusal) => Ok(Outcome::Refused(refusal)),
             None => Err(anyhow!("out of memory")),

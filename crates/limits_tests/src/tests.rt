@@ -29,7 +29,7 @@ fn accepted(heap: Global, limits: Limits) -> Result<(), Fail> {
     }
 }
 
-// A limit is passed, in this layer at this place.
+// A limit is passed, in the layer of this number at this place.
 fn too_much(
     rt: &impl Abort,
     heap: Global,
@@ -43,8 +43,8 @@ fn too_much(
     let Some(refusal) = fault.refusal() else {
         return Err(Fail::new("out of memory"));
     };
-    assert_eq!(rt; refusal.number, 1);
-    assert_eq!(rt; refusal.layer, layer);
+    assert_eq!(rt; refusal.cause.number(), 1);
+    assert_eq!(rt; refusal.layer.number(), layer);
     assert_eq!(rt; refusal.place, place);
     Ok(())
 }

@@ -1,84 +1,50 @@
 -- The rows that pass the check are those that can be held.
 use Rattle.std.proofs.Common.{◌≡◌, ℕ, zero, suc, ◌<◌, ◌≤◌, Bool, true, false, not, ◌&&◌, ◌||◌, eqb, leb, ◌⊎◌, List, [], ◌∷◌, ◌++◌, length, sym, refl, ap, ◌∙◌, ap₂, inl, inr, arith, eq-eqb, le-leb, leb-true}
+use Rattle.std.proofs.lemmas.Bool.{false≢true, both_ways, not-true, eqb-true, and_parts, and_from, or_cases, or_parts, or_left, or_right, not_from_false, false_from_ne_true}
 use mathlib.Core.Path.{subst⁻¹}
 use Rattle.program.specs.declared.action.Row.{Row}
 use Rattle.program.specs.Held.{reads, fills, counted, has, has_all, has_none, row_passes, passes_from, passes, at, Held, CheckLaw}
-use Rattle.program.proofs.Filling.{has_append, eqb_same}
-
-both_left : (a b : Bool) → (a && b) ≡ true → a ≡ true
-both_left true b e = refl
-both_left false b e = e
-
-both_right : (a b : Bool) → (a && b) ≡ true → b ≡ true
-both_right true b e = e
-both_right false b e = absurd (let z : ◌≡◌ {A = ℕ} 0 1 = cc in omega arith)
-
-or_cases : (a b : Bool) → (a || b) ≡ true → (a ≡ true) ⊎ (b ≡ true)
-or_cases true b e = inl refl
-or_cases false b e = inr e
-
-or_none : (a b : Bool) → (a || b) ≡ false → (a ≡ false) × (b ≡ false)
-or_none true b e = absurd (let z : ◌≡◌ {A = ℕ} 0 1 = cc in omega arith)
-or_none false b e = (refl, e)
-
-not_true : (a : Bool) → not a ≡ true → a ≡ false
-not_true true e = sym e
-not_true false e = refl
-
-true_false : {A : Type 0} (a : Bool) → a ≡ true → a ≡ false → A
-true_false a p q = absurd (let z : ◌≡◌ {A = ℕ} 0 1 = cc in omega arith)
+use Rattle.program.proofs.Filling.{has_append}
 
 -- a register among those that are all, or none of them, filled
 one_of_all : (rs qs : List ℕ) (r : ℕ) → has_all rs qs ≡ true → has r rs ≡ true → has r qs ≡ true
-one_of_all [] qs r a h = true_false false h refl
-one_of_all (x ∷ rs) qs r a h = go (or_cases (eqb r x) (has r rs) h) (one_of_all rs qs r (both_right (has x qs) (has_all rs qs) a))
+one_of_all [] qs r a h = absurd (false≢true h)
+one_of_all (x ∷ rs) qs r a h = go (or_cases (eqb r x) (has r rs) h) (one_of_all rs qs r (and_parts _ _ a).1)
   where
     go : (eqb r x ≡ true) ⊎ (has r rs ≡ true) → (has r rs ≡ true → has r qs ≡ true) → has r qs ≡ true
-    go (inl e) f = subst⁻¹ (λ z. has z qs ≡ true) (eqb_same r x e) (both_left (has x qs) (has_all rs qs) a)
+    go (inl e) f = subst⁻¹ (λ z. has z qs ≡ true) (eqb-true r x e) (and_parts _ _ a).0
     go (inr i) f = f i
 
 one_of_none : (rs qs : List ℕ) (r : ℕ) → has_none rs qs ≡ true → has r rs ≡ true → has r qs ≡ false
-one_of_none [] qs r a h = true_false false h refl
-one_of_none (x ∷ rs) qs r a h = go (or_cases (eqb r x) (has r rs) h) (one_of_none rs qs r (both_right (not (has x qs)) (has_none rs qs) a))
+one_of_none [] qs r a h = absurd (false≢true h)
+one_of_none (x ∷ rs) qs r a h = go (or_cases (eqb r x) (has r rs) h) (one_of_none rs qs r (and_parts _ _ a).1)
   where
     go : (eqb r x ≡ true) ⊎ (has r rs ≡ true) → (has r rs ≡ true → has r qs ≡ false) → has r qs ≡ false
-    go (inl e) f = subst⁻¹ (λ z. has z qs ≡ false) (eqb_same r x e) (not_true (has x qs) (both_left (not (has x qs)) (has_none rs qs) a))
+    go (inl e) f = subst⁻¹ (λ z. has z qs ≡ false) (eqb-true r x e) (not-true (has x qs) (and_parts _ _ a).0)
     go (inr i) f = f i
 
 has_first : (x : ℕ) (rs : List ℕ) → has x (x ∷ rs) ≡ true
 has_first x rs = ap (λ b. b || has x rs) (eq-eqb x x refl)
 
 has_later : (r x : ℕ) (rs : List ℕ) → has r rs ≡ true → has r (x ∷ rs) ≡ true
-has_later r x rs e = ap (λ b. eqb r x || b) e ∙ go (eqb r x)
-  where
-    go : (b : Bool) → (b || true) ≡ true
-    go true = refl
-    go false = refl
+has_later r x rs e = or_right (eqb r x) (has r rs) e
 
 all_of : (rs qs : List ℕ) → ((r : ℕ) → has r rs ≡ true → has r qs ≡ true) → has_all rs qs ≡ true
 all_of [] qs f = refl
-all_of (x ∷ rs) qs f = ap₂ (λ (a b : Bool). a && b) (f x (has_first x rs)) (all_of rs qs (λ r e. f r (has_later r x rs e)))
+all_of (x ∷ rs) qs f = and_from (has x qs) (has_all rs qs) (f x (has_first x rs)) (all_of rs qs (λ r e. f r (has_later r x rs e)))
 
 none_of : (rs qs : List ℕ) → ((r : ℕ) → has r rs ≡ true → has r qs ≡ false) → has_none rs qs ≡ true
 none_of [] qs f = refl
-none_of (x ∷ rs) qs f = ap₂ (λ (a b : Bool). not a && b) (f x (has_first x rs)) (none_of rs qs (λ r e. f r (has_later r x rs e)))
+none_of (x ∷ rs) qs f = and_from (not (has x qs)) (has_none rs qs) (not_from_false (has x qs) (f x (has_first x rs))) (none_of rs qs (λ r e. f r (has_later r x rs e)))
 
 has_either : (r : ℕ) (a b : List ℕ) → has r (a ++ b) ≡ true → (has r a ≡ true) ⊎ (has r b ≡ true)
 has_either r a b e = or_cases (has r a) (has r b) (sym (has_append r a b) ∙ e)
 
 has_left : (r : ℕ) (a b : List ℕ) → has r a ≡ true → has r (a ++ b) ≡ true
-has_left r a b e = has_append r a b ∙ ap (λ x. x || has r b) e
+has_left r a b e = has_append r a b ∙ or_left (has r a) (has r b) e
 
 has_right : (r : ℕ) (a b : List ℕ) → has r b ≡ true → has r (a ++ b) ≡ true
-has_right r a b e = has_append r a b ∙ ap (λ x. has r a || x) e ∙ go (has r a)
-  where
-    go : (x : Bool) → (x || true) ≡ true
-    go true = refl
-    go false = refl
-
-is_false : (b : Bool) → (b ≡ true → ⊥) → b ≡ false
-is_false true f = absurd (f refl)
-is_false false f = refl
+has_right r a b e = has_append r a b ∙ or_right (has r a) (has r b) e
 
 -- what holds of rows after others, which filled these registers, the last one in this line
 pub record After (counts done : List ℕ) (line : ℕ) (rows : List Row) : Type 0 where
@@ -95,18 +61,21 @@ module _ (counts : List ℕ) where
   before : (done : List ℕ) (line : ℕ) (x : Row) (rows : List Row) → row_passes counts done line x ≡ true → After counts (done ++ fills x.action) x.line rows → After counts done line (x ∷ rows)
   before done line x rows row later = record { reads_filled = one; fills_new = two; fills_once = three; lines_from = four; lines_rise = five; counts_kept = six }
     where
+      above : (leb line x.line ≡ true) × ((has_all (reads x.action) done && (has_none (fills x.action) done && counted counts x.action)) ≡ true)
+      above = and_parts _ _ row
+
+      read : (has_all (reads x.action) done ≡ true) × ((has_none (fills x.action) done && counted counts x.action) ≡ true)
+      read = and_parts _ _ above.1
+
+      filled : (has_none (fills x.action) done ≡ true) × (counted counts x.action ≡ true)
+      filled = and_parts _ _ read.1
+
       rises : line ≤ x.line
-      rises = leb-true line x.line (both_left (leb line x.line) (has_all (reads x.action) done && (has_none (fills x.action) done && counted counts x.action)) row)
-
-      three_tests : (has_all (reads x.action) done && (has_none (fills x.action) done && counted counts x.action)) ≡ true
-      three_tests = both_right (leb line x.line) (has_all (reads x.action) done && (has_none (fills x.action) done && counted counts x.action)) row
-
-      two_tests : (has_none (fills x.action) done && counted counts x.action) ≡ true
-      two_tests = both_right (has_all (reads x.action) done) (has_none (fills x.action) done && counted counts x.action) three_tests
+      rises = leb-true line x.line above.0
 
       one : (i r : ℕ) → i < length (x ∷ rows) → has r (reads (at (x ∷ rows) i).action) ≡ true
           → (has r done ≡ true) ⊎ ((j : ℕ) × (j < i) × (has r (fills (at (x ∷ rows) j).action) ≡ true))
-      one zero r h q = inl (one_of_all (reads x.action) done r (both_left (has_all (reads x.action) done) (has_none (fills x.action) done && counted counts x.action) three_tests) q)
+      one zero r h q = inl (one_of_all (reads x.action) done r (read.0) q)
       one (suc i) r h q = go (later.reads_filled i r (omega arith) q)
         where
           go : (has r (done ++ fills x.action) ≡ true) ⊎ ((j : ℕ) × (j < i) × (has r (fills (at rows j).action) ≡ true))
@@ -119,15 +88,15 @@ module _ (counts : List ℕ) where
           go (inr (j, l, p)) = inr (suc j, omega arith, p)
 
       old : (i r : ℕ) → i < length rows → has r (fills (at rows i).action) ≡ true → (has r done ≡ false) × (has r (fills x.action) ≡ false)
-      old i r h q = or_none (has r done) (has r (fills x.action)) (sym (has_append r done (fills x.action)) ∙ later.fills_new i r h q)
+      old i r h q = or_parts (has r done) (has r (fills x.action)) (sym (has_append r done (fills x.action)) ∙ later.fills_new i r h q)
 
       two : (i r : ℕ) → i < length (x ∷ rows) → has r (fills (at (x ∷ rows) i).action) ≡ true → has r done ≡ false
-      two zero r h q = one_of_none (fills x.action) done r (both_left (has_none (fills x.action) done) (counted counts x.action) two_tests) q
+      two zero r h q = one_of_none (fills x.action) done r (filled.0) q
       two (suc i) r h q = (old i r (omega arith) q).0
 
       three : (i j r : ℕ) → i < length (x ∷ rows) → j < i → has r (fills (at (x ∷ rows) i).action) ≡ true → has r (fills (at (x ∷ rows) j).action) ≡ true → ⊥
       three zero j r h l p q = absurd (omega arith)
-      three (suc i) zero r h l p q = true_false (has r (fills x.action)) q (old i r (omega arith) p).1
+      three (suc i) zero r h l p q = both_ways (has r (fills x.action)) (old i r (omega arith) p).1 q
       three (suc i) (suc j) r h l p q = later.fills_once i j r (omega arith) (omega arith) p q
 
       four : (i : ℕ) → i < length (x ∷ rows) → line ≤ (at (x ∷ rows) i).line
@@ -140,7 +109,7 @@ module _ (counts : List ℕ) where
       five (suc i) (suc j) h l = later.lines_rise i j (omega arith) (omega arith)
 
       six : (i : ℕ) → i < length (x ∷ rows) → counted counts (at (x ∷ rows) i).action ≡ true
-      six zero h = both_right (has_none (fills x.action) done) (counted counts x.action) two_tests
+      six zero h = filled.1
       six (suc i) h = later.counts_kept i (omega arith)
 
   sound : (done : List ℕ) (line : ℕ) (rows : List Row) → passes_from counts done line rows ≡ true → After counts done line rows
@@ -153,8 +122,8 @@ module _ (counts : List ℕ) where
     counts_kept = λ i h. absurd (omega arith);
   }
   sound done line (x ∷ rows) e =
-      before done line x rows (both_left (row_passes counts done line x) (passes_from counts (done ++ fills x.action) x.line rows) e)
-      (sound (done ++ fills x.action) x.line rows (both_right (row_passes counts done line x) (passes_from counts (done ++ fills x.action) x.line rows) e))
+      before done line x rows (and_parts _ _ e).0
+      (sound (done ++ fills x.action) x.line rows (and_parts _ _ e).1)
 
   whole : (done : List ℕ) (line : ℕ) (rows : List Row) → After counts done line rows → passes_from counts done line rows ≡ true
   whole done line [] a = refl
@@ -179,7 +148,7 @@ module _ (counts : List ℕ) where
         reads_filled = λ i r h q. reading i r (a.reads_filled (suc i) r (omega arith) q);
         fills_new = λ i r h q.
             has_append r done (fills x.action)
-            ∙ ap₂ (λ (y z : Bool). y || z) (a.fills_new (suc i) r (omega arith) q) (is_false (has r (fills x.action)) (λ p. a.fills_once (suc i) 0 r (omega arith) (omega arith) q p));
+            ∙ ap₂ (λ (y z : Bool). y || z) (a.fills_new (suc i) r (omega arith) q) (false_from_ne_true (has r (fills x.action)) (λ p. a.fills_once (suc i) 0 r (omega arith) (omega arith) q p));
         fills_once = λ i j r h l p q. a.fills_once (suc i) (suc j) r (omega arith) (omega arith) p q;
         lines_from = λ i h. a.lines_rise (suc i) 0 (omega arith) (omega arith);
         lines_rise = λ i j h l. a.lines_rise (suc i) (suc j) (omega arith) (omega arith);
@@ -199,7 +168,7 @@ check_law counts rows = (forth, back)
     forth e =
         let a = sound counts [] 0 rows e in
         record {
-          reads_filled = λ i r h q. elim (a.reads_filled i r h q) [ inl p ↦ true_false false p refl | inr w ↦ w ];
+          reads_filled = λ i r h q. elim (a.reads_filled i r h q) [ inl p ↦ absurd (false≢true p) | inr w ↦ w ];
           fills_once = a.fills_once;
           lines_rise = a.lines_rise;
           counts_kept = a.counts_kept;

@@ -1,31 +1,20 @@
 -- Marks of filled registers.
-use Rattle.std.proofs.Common.{◌≡◌, ℕ, zero, suc, ◌+◌, ◌-◌, ◌<◌, ◌≤◌, Bool, true, false, cond, not, ◌&&◌, ◌||◌, T, eqb, List, [], ◌∷◌, ◌++◌, length, get_or, set, replicate, sym, refl, ap, ◌∙◌, subst, ap₂, arith, eqb→eq, eq-eqb, ne_eqb}
-use native.Mathlib.Decide.{ℕ_discrete}
+use Rattle.std.proofs.Common.{◌≡◌, ℕ, zero, suc, ◌+◌, ◌-◌, ◌<◌, ◌≤◌, Bool, true, false, not, ◌&&◌, ◌||◌, ◌⊎◌, inl, inr, eqb, List, [], ◌∷◌, ◌++◌, length, get_or, set, replicate, sym, refl, ap, ◌∙◌, subst, ap₂, arith, eq-eqb, ne_eqb}
 use mathlib.Core.Path.{subst⁻¹}
-use Rattle.std.proofs.lemmas.List.{get_or_read, get_or-set_same, get_or-set_other, length-set, length-replicate}
+use Rattle.std.proofs.Math.Bool.{or_assoc, and_assoc, or-true, or-false}
+use Rattle.std.proofs.lemmas.Bool.{both_ways, cases_eq, or_cases, or_parts, and_right}
+use Rattle.std.proofs.lemmas.List.{append_assoc, append-nil, get_or-set_same, get_or-set_other}
 use Rattle.program.specs.Held.{from, has, has_none, has_all}
-use Rattle.program.specs.Checked.{Marks, marked_all}
-use Rattle.program.proofs.Lists.{join, append_none}
-
--- a step of the loop over registers that are read
-pub marked_step : (marks : List Bool) (r : ℕ) (rs : List ℕ) → marked_all marks (r ∷ rs) ≡ cond (not (get_or marks r false)) false (marked_all marks rs)
-marked_step marks r rs = go (get_or marks r false)
-  where
-    go : (b : Bool) → cond b (marked_all marks rs) false ≡ cond (not b) false (marked_all marks rs)
-    go true = refl
-    go false = refl
-
-both : (a b : Bool) → cond a b false ≡ (a && b)
-both true b = refl
-both false b = refl
+use Rattle.program.specs.Checked.{AreFilled}
+use Rattle.program.specs.Marked.{marked_all}
 
 -- marks that say what was filled
-pub marked_has : (marks : List Bool) (done : List ℕ) → Marks marks done → (rs : List ℕ) → marked_all marks rs ≡ has_all rs done
+pub marked_has : (marks : List Bool) (done : List ℕ) → AreFilled marks done → (rs : List ℕ) → marked_all marks rs ≡ has_all rs done
 marked_has marks done m [] = refl
-marked_has marks done m (r ∷ rs) = ap₂ (λ (x y : Bool). cond x y false) (m.each r) (marked_has marks done m rs) ∙ both (has r done) (has_all rs done)
+marked_has marks done m (r ∷ rs) = ap₂ (λ (x y : Bool). x && y) (m r) (marked_has marks done m rs)
 
-pub none_filled : (marks : List Bool) → marks ≡ replicate 65791 false → Marks marks []
-none_filled marks e = record { long = ap length e ∙ length-replicate 65791 false; each = λ r. ap (λ xs. get_or xs r false) e ∙ all_false 65791 r }
+pub none_filled : (marks : List Bool) → marks ≡ replicate 65791 false → AreFilled marks []
+none_filled marks e r = ap (λ xs. get_or xs r false) e ∙ all_false 65791 r
   where
     all_false : (n r : ℕ) → get_or (replicate n false) r false ≡ false
     all_false zero r = refl
@@ -34,11 +23,7 @@ none_filled marks e = record { long = ap length e ∙ length-replicate 65791 fal
 
 pub has_append : (r : ℕ) (a b : List ℕ) → has r (a ++ b) ≡ (has r a || has r b)
 has_append r [] b = refl
-has_append r (x ∷ a) b = ap (λ z. eqb r x || z) (has_append r a b) ∙ go (eqb r x) (has r a) (has r b)
-  where
-    go : (x y z : Bool) → (x || (y || z)) ≡ ((x || y) || z)
-    go true y z = refl
-    go false y z = refl
+has_append r (x ∷ a) b = ap (λ z. eqb r x || z) (has_append r a b) ∙ sym (or_assoc (eqb r x) (has r a) (has r b))
 
 from_more : (r n : ℕ) → from r (suc n) ≡ from r n ++ ((r + n) ∷ [])
 from_more r zero = let e : r + zero ≡ r = omega arith in ap (λ z. z ∷ []) (sym e)
@@ -46,11 +31,7 @@ from_more r (suc n) = let e : suc r + n ≡ r + suc n = omega arith in ap (λ zs
 
 none_append : (a b done : List ℕ) → has_none (a ++ b) done ≡ (has_none a done && has_none b done)
 none_append [] b done = refl
-none_append (x ∷ a) b done = ap (λ z. not (has x done) && z) (none_append a b done) ∙ go (not (has x done)) (has_none a done) (has_none b done)
-  where
-    go : (x y z : Bool) → (x && (y && z)) ≡ ((x && y) && z)
-    go true y z = refl
-    go false y z = refl
+none_append (x ∷ a) b done = ap (λ z. not (has x done) && z) (none_append a b done) ∙ sym (and_assoc (not (has x done)) (has_none a done) (has_none b done))
 
 -- registers of a row are below its end
 below_row : (q r n : ℕ) → r + n ≤ q → has q (from r n) ≡ false
@@ -59,63 +40,47 @@ below_row q r (suc n) h = ap₂ (λ (x y : Bool). x || y) (ne_eqb q r (λ e. ome
 
 -- the first k registers of a row were filled
 abbrev pub FilledUpto : List Bool → List Bool → ℕ → ℕ → Type 0
-FilledUpto marks marks' r k = (done : List ℕ) → Marks marks done → Marks marks' (done ++ from r k) × (has_none (from r k) done ≡ true)
+FilledUpto marks marks' r k = (done : List ℕ) → AreFilled marks done → AreFilled marks' (done ++ from r k) × (has_none (from r k) done ≡ true)
 
 pub filled_none : (marks : List Bool) (r : ℕ) → FilledUpto marks marks r 0
-filled_none marks r done m = (subst⁻¹ (Marks marks) (append_none done) m, refl)
+filled_none marks r done m = (subst⁻¹ (AreFilled marks) (append-nil done) m, refl)
 
 module _ (marks marks' : List Bool) (r k : ℕ) (long : length marks' ≡ 65791) (f : FilledUpto marks marks' r k) where
   -- the next one was not filled before
   module _ (h : r + k < 65791) (e : get_or marks' (r + k) false ≡ false) where
-    free : (done : List ℕ) → Marks marks done → has (r + k) done ≡ false
-    free done m = left (has (r + k) done) (has (r + k) (from r k)) (sym (has_append (r + k) done (from r k)) ∙ sym ((f done m).0.each (r + k)) ∙ e)
-      where
-        left : (x y : Bool) → (x || y) ≡ false → x ≡ false
-        left true y q = q
-        left false y q = refl
+    free : (done : List ℕ) → AreFilled marks done → has (r + k) done ≡ false
+    free done m = (or_parts _ (has (r + k) (from r k)) (sym (has_append (r + k) done (from r k)) ∙ sym ((f done m).0 (r + k)) ∙ e)).0
 
     pub filled_more : FilledUpto marks (set marks' (r + k) true) r (suc k)
     filled_more done m = (
-      record {
-        long = length-set marks' (r + k) true ∙ long;
-        each = λ q. at q (ℕ_discrete q (r + k));
-      },
+      λ q. at q (cases_eq q (r + k)),
       ap (λ xs. has_none xs done) (from_more r k) ∙ none_append (from r k) ((r + k) ∷ []) done
           ∙ ap₂ (λ (x y : Bool). x && (not y && true)) (f done m).1 (free done m),
     )
       where
         list : done ++ from r (suc k) ≡ (done ++ from r k) ++ ((r + k) ∷ [])
-        list = ap (λ xs. done ++ xs) (from_more r k) ∙ sym (join done (from r k) ((r + k) ∷ []))
+        list = ap (λ xs. done ++ xs) (from_more r k) ∙ sym (append_assoc done (from r k) ((r + k) ∷ []))
 
         after : (q : ℕ) (b : Bool) → eqb q (r + k) ≡ b → has q (done ++ from r (suc k)) ≡ (has q (done ++ from r k) || (b || false))
         after q b z = ap (has q) list ∙ has_append q (done ++ from r k) ((r + k) ∷ []) ∙ ap (λ x. has q (done ++ from r k) || (x || false)) z
 
-        or_true : (x : Bool) → true ≡ (x || (true || false))
-        or_true true = refl
-        or_true false = refl
-
-        or_false : (x : Bool) → x ≡ (x || (false || false))
-        or_false true = refl
-        or_false false = refl
-
-        at : (q : ℕ) → Dec (q ≡ r + k) → get_or (set marks' (r + k) true) q false ≡ has q (done ++ from r (suc k))
-        at q (yes z) =
+        at : (q : ℕ) → (q ≡ r + k) ⊎ (q ≡ r + k → ⊥) → get_or (set marks' (r + k) true) q false ≡ has q (done ++ from r (suc k))
+        at q (inl z) =
             ap (λ x. get_or (set marks' (r + k) true) x false) z ∙ get_or-set_same marks' (r + k) true false (omega arith)
-            ∙ or_true (has q (done ++ from r k)) ∙ sym (after q true (eq-eqb q (r + k) z))
-        at q (no z) =
-            get_or-set_other marks' (r + k) q true false z ∙ (f done m).0.each q
-            ∙ or_false (has q (done ++ from r k)) ∙ sym (after q false (ne_eqb q (r + k) z))
+            ∙ sym (or-true (has q (done ++ from r k))) ∙ sym (after q true (eq-eqb q (r + k) z))
+        at q (inr z) =
+            get_or-set_other marks' (r + k) q true false z ∙ (f done m).0 q
+            ∙ sym (or-false (has q (done ++ from r k))) ∙ sym (after q false (ne_eqb q (r + k) z))
 
   -- it was filled before: so none of the row may be filled
-  pub filled_before : (n : ℕ) → k < n → get_or marks' (r + k) false ≡ true → (done : List ℕ) → Marks marks done → has_none (from r n) done ≡ false
+  pub filled_before : (n : ℕ) → k < n → get_or marks' (r + k) false ≡ true → (done : List ℕ) → AreFilled marks done → has_none (from r n) done ≡ false
   filled_before n l e done m = ap (λ xs. has_none xs done) (cut r n k l) ∙ none_append (from r k) ((r + k) ∷ from (suc (r + k)) (n - suc k)) done ∙ last
     where
       old : has (r + k) done ≡ true
-      old = right (has (r + k) done) (has (r + k) (from r k)) (below_row (r + k) r k (omega arith)) (sym (has_append (r + k) done (from r k)) ∙ sym ((f done m).0.each (r + k)) ∙ e)
-        where
-          right : (x y : Bool) → y ≡ false → (x || y) ≡ true → x ≡ true
-          right true y p q = refl
-          right false y p q = sym p ∙ q
+      old = elim (or_cases _ (has (r + k) (from r k)) (sym (has_append (r + k) done (from r k)) ∙ sym ((f done m).0 (r + k)) ∙ e)) [
+        | inl q ↦ q
+        | inr q ↦ absurd (both_ways _ (below_row (r + k) r k (omega arith)) q)
+      ]
 
       cut : (r n k : ℕ) → k < n → from r n ≡ from r k ++ ((r + k) ∷ from (suc (r + k)) (n - suc k))
       cut r zero k h = absurd (omega arith)
@@ -124,34 +89,28 @@ module _ (marks marks' : List Bool) (r k : ℕ) (long : length marks' ≡ 65791)
           let a : suc r + k ≡ r + suc k = omega arith in let b : n - suc k ≡ suc n - suc (suc k) = omega arith in
           ap (λ xs. r ∷ xs) (cut (suc r) n k (omega arith) ∙ rw (a, b))
 
-      and_false : (x y : Bool) → (x && (not true && y)) ≡ false
-      and_false true y = refl
-      and_false false y = refl
-
       last : (has_none (from r k) done && (not (has (r + k) done) && has_none (from (suc (r + k)) (n - suc k)) done)) ≡ false
-      last = ap (λ x. has_none (from r k) done && (not x && has_none (from (suc (r + k)) (n - suc k)) done)) old ∙ and_false (has_none (from r k) done) (has_none (from (suc (r + k)) (n - suc k)) done)
+      last = ap (λ x. has_none (from r k) done && (not x && has_none (from (suc (r + k)) (n - suc k)) done)) old ∙ and_right (has_none (from r k) done) false refl
 
 -- the same, by the register that the loop is at
+pub fill_none : (marks : List Bool) (r : ℕ) → FilledUpto marks marks r (r - r)
+fill_none marks r done m =
+    let e : r - r ≡ 0 = omega arith in
+    subst⁻¹ (FilledUpto marks marks r) e (filled_none marks r) done m
+
 module _ (marks marks' : List Bool) (r q : ℕ) (long : length marks' ≡ 65791) (h : r ≤ q) (f : FilledUpto marks marks' r (q - r)) where
   here : r + (q - r) ≡ q
   here = omega arith
 
-  pub fill_more : q < 65791 → (b : Bool) → b ≡ get_or marks' q b → b ≡ false → (length (set marks' q true) ≡ 65791) × FilledUpto marks (set marks' q true) r (q + 1 - r)
-  fill_more l b g e = (
-    length-set marks' q true ∙ long,
-    (let s : suc (q - r) ≡ q + 1 - r = omega arith in
-        subst (λ n. FilledUpto marks (set marks' q true) r n) s
-        (subst (λ x. FilledUpto marks (set marks' x true) r (suc (q - r))) here
-        (filled_more marks marks' r (q - r) long f (omega arith) (ap (λ x. get_or marks' x false) here ∙ sym (get_or_read marks' q b (omega arith) g false) ∙ e)))),
-  )
+  pub fill_more : q < 65791 → get_or marks' q false ≡ false → FilledUpto marks (set marks' q true) r (q + 1 - r)
+  fill_more l e =
+      let s : suc (q - r) ≡ q + 1 - r = omega arith in
+      subst (λ n. FilledUpto marks (set marks' q true) r n) s
+      (subst (λ x. FilledUpto marks (set marks' x true) r (suc (q - r))) here
+      (filled_more marks marks' r (q - r) long f (omega arith) (ap (λ x. get_or marks' x false) here ∙ e)))
 
-  pub fill_stops : (n : ℕ) → q < r + n → q < 65791 → (b : Bool) → b ≡ get_or marks' q b → b ≡ true → (done : List ℕ) → Marks marks done → has_none (from r n) done ≡ false
-  fill_stops n m l b g e =
-      filled_before marks marks' r (q - r) long f n (omega arith) (ap (λ x. get_or marks' x false) here ∙ sym (get_or_read marks' q b (omega arith) g false) ∙ e)
+  pub fill_stops : (n : ℕ) → q < r + n → get_or marks' q false ≡ true → (done : List ℕ) → AreFilled marks done → has_none (from r n) done ≡ false
+  fill_stops n m e = filled_before marks marks' r (q - r) long f n (omega arith) (ap (λ x. get_or marks' x false) here ∙ e)
 
   pub fill_ends : (n : ℕ) → q ≡ r + n → FilledUpto marks marks' r n
   fill_ends n e = let s : q - r ≡ n = omega arith in subst (λ k. FilledUpto marks marks' r k) s f
-
--- the test of equal numbers
-pub eqb_same : (a b : ℕ) → eqb a b ≡ true → a ≡ b
-eqb_same a b e = eqb→eq a b (subst⁻¹ T e tt)

@@ -5,7 +5,8 @@ ghost use Rattle.program.specs.Actions.{built, opened};
 use crate::kind::Kind;
 use crate::parts::Parts;
 
-// Registers by number; the one that is filled, or the first of those, comes first.
+// Registers by number; the one that is filled, or the first of those, comes first. The actions are those of the model, and each step
+// over a program is a `match` on them.
 #[derive(Clone, Copy)]
 pub enum Action {
     // a register takes a term that the role starts from

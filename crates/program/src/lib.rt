@@ -5,6 +5,9 @@ pub mod action;
 mod check;
 pub mod held;
 pub mod kind;
+pub mod marks;
 pub mod parts;
 pub mod print;
 pub mod take_up;
+#[cfg(test)]
+mod tests;

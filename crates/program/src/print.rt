@@ -1,4 +1,5 @@
-// The text of a program: a row to a line, with the line's number, the action and its registers. A function goes by its name.
+// The text of a program: a row to a line, with the line's number, the action and its registers. A function goes by its name, which
+// is a part of a text: so a row is printed by a function that has the names, and no `Display` of its own.
 ghost use Rattle.std.specs.Prelude.{◌≡◌, [], ◌++◌, map, string_bytes, IsAscii, OnOk};
 ghost use Rattle.program.specs.Printed.{numbers, name, action_text, row_text, Narrow};
 
@@ -10,8 +11,7 @@ use std::fmt::Write;
 pub fn print_row(out: &mut String, row: Row, functions: &[&[u8]]) -> fmt::Result
     ensures { Narrow (map (λ x. x.now) functions.now) → OnOk result (string_bytes out.new ≡ string_bytes out.old ++ row_text (map (λ x. x.now) functions.now) row) }
 {
-    let line = row.line;
-    write!(out, "{line}")?;
+    write!(out, "{}", row.line)?;
     print_action(out, row.action, functions)
 }
 
@@ -35,8 +35,7 @@ fn print_action(out: &mut String, action: Action, functions: &[&[u8]]) -> fmt::R
             parts,
         } => {
             write!(out, " apply {target} ")?;
-            print_name(out, name_of(functions, function))?;
-            print_numbers(out, parts.as_slice())
+            print_call(out, functions, function, parts.as_slice())
         }
         Action::OpenCrypt {
             target,
@@ -55,8 +54,7 @@ fn print_action(out: &mut String, action: Action, functions: &[&[u8]]) -> fmt::R
             function,
         } => {
             write!(out, " open-apply {first} {count} {source} ")?;
-            print_name(out, name_of(functions, function))?;
-            print_numbers(out, &[])
+            print_call(out, functions, function, &[])
         }
     }
 }
@@ -69,12 +67,19 @@ fn print_words(out: &mut String, word: &str, list: &[u16]) -> fmt::Result
     print_numbers(out, list)
 }
 
+// The name of a function, and numbers to the end of the line.
+fn print_call(out: &mut String, functions: &[&[u8]], function: u8, list: &[u16]) -> fmt::Result
+    ensures { Narrow (map (λ x. x.now) functions.now) → OnOk result (string_bytes out.new ≡ string_bytes out.old ++ (name (map (λ x. x.now) functions.now) function ++ numbers list.now)) }
+{
+    print_name(out, name_of(functions, function))?;
+    print_numbers(out, list)
+}
+
 // Numbers to the end of the line.
 fn print_numbers(out: &mut String, list: &[u16]) -> fmt::Result
     ensures { OnOk result (string_bytes out.new ≡ string_bytes out.old ++ numbers list.now) }
 {
     for number in list {
-        let number = *number;
         write!(out, " {number}")?;
     }
     out.write_str("\n")
@@ -85,21 +90,14 @@ pub fn print_name(out: &mut String, name: &[u8]) -> fmt::Result
     ensures { IsAscii name.now → OnOk result (string_bytes out.new ≡ string_bytes out.old ++ name.now) }
 {
     for byte in name {
-        if out.push(char::from(*byte)).is_err() {
-            return Err(fmt::Error);
-        }
+        out.write_char(char::from(*byte))?;
     }
     Ok(())
 }
 
-// The name of a function by its number.
+// The name of a function by its number, or an empty one: it answers no `Option`, since rows name functions that are listed.
 fn name_of<'a>(functions: &[&'a [u8]], function: u8) -> &'a [u8]
     ensures { result.now ≡ name (map (λ x. x.now) functions.now) function }
 {
-    let at = function as usize;
-    if at < functions.len() {
-        functions[at]
-    } else {
-        b""
-    }
+    functions.get(function as usize).copied().unwrap_or(b"")
 }

@@ -1,21 +1,43 @@
 // Taking up rows as a program.
 ghost use Rattle.std.specs.Prelude.{◌≡◌};
+ghost use Rattle.program.specs.declared.take_up.ProgramFault.TheVariants.{NoMemory};
 ghost use Rattle.program.specs.Held.{CheckLaw};
-ghost use Rattle.program.specs.TakenUp.{TakesUp, Checks};
+ghost use Rattle.program.specs.TakenUp.{Holds, TakesUp, Checks};
 
 use crate::action::Row;
 use crate::check::Filled;
 use crate::held::Program;
 use std::alloc::{AllocError, Global};
 
-#[derive(Clone, Copy, Debug)]
+#[derive(Clone, Copy, PartialEq, Eq, Debug)]
 pub enum ProgramFault {
     // the rows do not pass the check
     Unsound,
     NoMemory,
 }
 
+impl From<AllocError> for ProgramFault {
+    ghost from_gives = { λ _ fault. fault ≡ NoMemory };
+
+    fn from(_error: AllocError) -> ProgramFault {
+        ProgramFault::NoMemory
+    }
+}
+
 impl<'a> Program<'a> {
+    // The program of some rows, if they pass the check.
+    pub fn from_rows(
+        heap: Global,
+        rows: &'a [Row],
+        counts: &'a [u8],
+    ) -> Result<Program<'a>, ProgramFault>
+        ensures held { Holds rows.entry counts.entry result }
+        ensures law { CheckLaw }
+    {
+        check(heap, rows, counts)?;
+        Ok(Program { rows, counts })
+    }
+
     // The rows become this program if they pass the check; otherwise it stays as it was.
     pub fn take_up(
         &mut self,
@@ -26,28 +48,22 @@ impl<'a> Program<'a> {
         ensures taken { TakesUp self.old self.new rows.entry counts.entry result }
         ensures law { CheckLaw }
     {
-        let Ok(passed) = check(heap, rows, counts) else {
-            return Err(ProgramFault::NoMemory);
-        };
-        if !passed {
-            return Err(ProgramFault::Unsound);
-        }
-        *self = Program { rows, counts };
+        *self = Program::from_rows(heap, rows, counts)?;
         Ok(())
     }
 }
 
 // Whether rows pass the check, one after the other.
-fn check(heap: Global, rows: &[Row], counts: &[u8]) -> Result<bool, AllocError>
+fn check(heap: Global, rows: &[Row], counts: &[u8]) -> Result<(), ProgramFault>
     ensures { Checks counts.now rows.now result }
 {
     let mut filled = Filled::new(heap)?;
     let mut line = 0;
     for row in rows {
         if !filled.step(*row, counts, line) {
-            return Ok(false);
+            return Err(ProgramFault::Unsound);
         }
         line = row.line;
     }
-    Ok(true)
+    Ok(())
 }

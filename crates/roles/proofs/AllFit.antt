@@ -63,3 +63,7 @@ module _ (t : TermTable) where
   pub all_keep_set : (rs : List Role) (i : ℕ) (x : Role) (r : Result (Unit {0}) LineFault) → AllFit t rs → Keeps t x.party x.state r → AllKeep t (set rs i x) r
   all_keep_set rs i x (Ok y) f k = all_fit_set rs i x f k
   all_keep_set rs i x (Err e) f k = tt
+
+-- the table has grown, and one of the roles was changed
+pub all_fit_after : (t u : TermTable) → Grows t u → (rs : List Role) → AllFit t rs → (i : ℕ) (r : Role) → Fit u r.party r.state → AllFit u (set rs i r)
+all_fit_after t u g rs f i r h = all_fit_set u rs i r (all_fit_grows t u g rs f) h

@@ -1,10 +1,9 @@
 -- A loop over the declared functions that gathers a party's.
-use Rattle.std.proofs.Common.{◌≡◌, ℕ, ◌+◌, ◌<◌, ◌≤◌, Bool, List, [], ◌∷◌, ◌++◌, map, length, get_or, drop, sym, refl, ap, ◌∙◌}
-use Rattle.std.proofs.lemmas.List.{append_assoc, append-nil, at_drop_more, at_drop_all}
+use Rattle.std.proofs.Common.{◌≡◌, ℕ, ◌+◌, ◌≤◌, Bool, List, [], ◌∷◌, ◌++◌, map, length, drop, sym, refl, ap, ◌∙◌}
+use Rattle.std.proofs.lemmas.List.{append-nil, at_drop_all}
 use Rattle.terms.specs.declared.declarations.Function as declared
 use Rattle.terms.specs.declared.declarations.Right.{Right}
-use Rattle.terms.specs.declared.declarations.ValueType.{ValueType}
-use Rattle.terms.specs.Meanings.{signature_in}
+use Rattle.terms.specs.Meanings.{signature_of}
 use Rattle.terms.specs.Starting.{has_right}
 use Rattle.roles.specs.declared.party.Function.{Function}
 use Rattle.roles.specs.Starting.{functions_from}
@@ -18,15 +17,10 @@ rows_from n rights f [] = []
 rows_from n rights f (x ∷ xs) = party_function x (has_right n f rights) ∷ rows_from n rights (f + 1) xs
 
 module _ (n : ℕ) (rights : List Right) where
-  pub rows_same : (ps : List ValueType) (f : ℕ) (xs : List declared.Function) → rows_from n rights f xs ≡ functions_from n rights f (map (signature_in ps) xs)
-  rows_same ps f [] = refl
-  rows_same ps f (x ∷ xs) = ap (λ z. party_function x (has_right n f rights) ∷ z) (rows_same ps (f + 1) xs)
+  pub rows_same : (f : ℕ) (xs : List declared.Function) → rows_from n rights f xs ≡ functions_from n rights f (map signature_of xs)
+  rows_same f [] = refl
+  rows_same f (x ∷ xs) = ap (λ z. party_function x (has_right n f rights) ∷ z) (rows_same (f + 1) xs)
 
   module _ (xs : List declared.Function) (i : ℕ) (ys all : List Function) (e : ys ++ rows_from n rights i (drop i xs) ≡ all) where
-    pub rows_more : (d : declared.Function) (y : Function) → i < length xs → y ≡ party_function (get_or xs i d) (has_right n i rights) → (ys ++ y ∷ []) ++ rows_from n rights (i + 1) (drop (i + 1) xs) ≡ all
-    rows_more d y h q =
-        append_assoc ys (y ∷ []) (rows_from n rights (i + 1) (drop (i + 1) xs)) ∙ ap (λ z. ys ++ (z ∷ rows_from n rights (i + 1) (drop (i + 1) xs))) q
-        ∙ sym (ap (λ z. ys ++ z) (at_drop_more (rows_from n rights i) xs i d h)) ∙ e
-
     pub rows_end : length xs ≤ i → ys ≡ all
     rows_end h = sym (append-nil ys) ∙ ap (λ z. ys ++ z) (sym (at_drop_all (rows_from n rights i) xs i h)) ∙ e

@@ -1,7 +1,9 @@
 -- Which terms can be composed: the model's steps as equations, and the marks that the code keeps.
-use Rattle.std.proofs.Common.{◌≡◌, ℕ, ◌+◌, ◌<◌, ◌≤◌, Bool, true, false, cond, not, ◌&&◌, ◌||◌, eqb, List, [], ◌∷◌, ◌++◌, length, get_or, take, set, replicate, is_some, Some, None, vec_items, Option, sym, refl, ap, ◌∙◌, ap₂, arith, below_more, eq-eqb, ne_eqb}
+use Rattle.std.specs.Prelude.{option_map}
+use Rattle.std.specs.List.{find}
+use Rattle.std.proofs.Common.{◌≡◌, ℕ, ◌+◌, ◌<◌, ◌≤◌, Bool, true, false, cond, ◌&&◌, ◌||◌, eqb, List, [], ◌∷◌, ◌++◌, length, get_or, take, set, is_some, Some, None, vec_items, Option, sym, refl, ap, ◌∙◌, ap₂, arith, below_more, eq-eqb, ne_eqb}
 use native.Mathlib.Decide.{ℕ_discrete}
-use Rattle.std.proofs.lemmas.List.{get_or-set_same, get_or-set_other, get_or-replicate, length-set, length-replicate, take_more}
+use Rattle.std.proofs.lemmas.List.{get_or-set_same, get_or-set_other, length-set, take_more}
 use mathlib.Core.Path.{subst⁻¹}
 use mathlib.Core.Option.{none as nothing, some}
 use Rattle.model.specs.Trees.{Head, Tree, Trees, leaf, node}
@@ -19,13 +21,14 @@ use Rattle.terms.specs.declared.term.TermRow.TheVariants.{Name, Compound}
 use Rattle.roles.specs.declared.state.Entry.{Entry}
 use Rattle.terms.specs.Shapes.{trees, AllBelow}
 use Rattle.program.specs.Actions.{head_of}
+use Rattle.program.specs.Marked.{marked_all}
 use Rattle.program.specs.Parts.{parts_of}
 use Rattle.terms.specs.Rows.{Stands}
 use Rattle.roles.specs.Parties.{party_of}
 use Rattle.roles.specs.Filled.{find_entry}
 use Rattle.roles.specs.States.{known_of, as_model}
 use Rattle.terms.specs.Terms.{tree_in, size}
-use Rattle.roles.specs.Composed.{Knows, all_in, row_composable, can_be, can_all_be}
+use Rattle.roles.specs.Composed.{Knows, row_composable, can_be, can_all_be}
 use Rattle.roles.proofs.Composing.{model_finds}
 
 module _ (P : model.Party) (es : List model_roles.Entry) where
@@ -54,14 +57,10 @@ known_test (Some r) = refl
 
 module _ (t : TermTable) (s : RoleState) (p : Party) where
   -- marks that are right below a number give whether parts below it can be composed
-  pub marked_all : (n : ℕ) (bs : List Bool) → ((k : ℕ) → k < n → get_or bs k false ≡ can_be t p s k) → (ks : List ℕ) → AllBelow n ks → all_in bs ks ≡ can_all_be t p s ks
+  pub marked_can : (n : ℕ) (bs : List Bool) → ((k : ℕ) → k < n → get_or bs k false ≡ can_be t p s k) → (ks : List ℕ) → AllBelow n ks → marked_all bs ks ≡ can_all_be t p s ks
   unfolding can
-  marked_all n bs f [] b = refl
-  marked_all n bs f (k ∷ ks) b = ap₂ (λ (x y : Bool). cond x y false) (f k b.0) (marked_all n bs f ks b.1) ∙ both (can_be t p s k) (can_all_be t p s ks)
-    where
-      both : (x y : Bool) → cond x y false ≡ (x && y)
-      both true y = refl
-      both false y = refl
+  marked_can n bs f [] b = refl
+  marked_can n bs f (k ∷ ks) b = ap₂ (λ (x y : Bool). x && y) (f k b.0) (marked_can n bs f ks b.1)
 
   module _ (k : ℕ) (h : k < size t) (w : Knows t s) where
     pub knows_same : is_some (find_entry k (vec_items s.known)) ≡ knows (known_of (tree_in t) (vec_items s.known)) (tree_in t k)
@@ -79,8 +78,8 @@ module _ (t : TermTable) (s : RoleState) (p : Party) where
         compound = can_node _ _ (tree_in t k) (head_of kind) (trees (tree_in t) (parts_of parts)) d.tree (sym knows_same ∙ sym e)
 
         pub by_parts : (bs : List Bool) → ((j : ℕ) → j < k → get_or bs j false ≡ can_be t p s j)
-            → (may (party_of (vec_items p.functions)) (head_of kind) && all_in bs (parts_of parts)) ≡ can_be t p s k
-        by_parts bs f = ap (λ b. may (party_of (vec_items p.functions)) (head_of kind) && b) (marked_all k bs f (parts_of parts) d.below) ∙ sym compound
+            → (may (party_of (vec_items p.functions)) (head_of kind) && marked_all bs (parts_of parts)) ≡ can_be t p s k
+        by_parts bs f = ap (λ b. may (party_of (vec_items p.functions)) (head_of kind) && b) (marked_can k bs f (parts_of parts) d.below) ∙ sym compound
 
     -- a row over marks that are right below it
     pub row_can : (row : TermRow) → Stands (vec_items t.rows) k row → (bs : List Bool) → ((j : ℕ) → j < k → get_or bs j false ≡ can_be t p s j)
@@ -88,25 +87,18 @@ module _ (t : TermTable) (s : RoleState) (p : Party) where
     row_can (Name n) d bs f e = cannot_name e n d
     row_can (Compound kind parts) d bs f e = by_parts e kind parts d bs f
 
--- a step of the loop that looks at marks
-pub all_step : (bs : List Bool) (k : ℕ) (ks : List ℕ) → all_in bs (k ∷ ks) ≡ cond (not (get_or bs k false)) false (all_in bs ks)
-all_step bs k ks = go (get_or bs k false)
-  where
-    go : (b : Bool) → cond b (all_in bs ks) false ≡ cond (not b) false (all_in bs ks)
-    go true = refl
-    go false = refl
-
 -- one more entry is looked at
 pub found_more : (k : ℕ) (es : List Entry) (e : Entry) → is_some (find_entry k (es ++ e ∷ [])) ≡ cond (eqb e.term k) true (is_some (find_entry k es))
 found_more k [] e = go (eqb e.term k)
   where
-    go : (b : Bool) → is_some (cond b (Some e.register) None) ≡ cond b true false
+    go : (b : Bool) → is_some (option_map (λ (y : Entry). y.register) (cond b (Some e) None)) ≡ cond b true false
     go true = refl
     go false = refl
 found_more k (x ∷ es) e = go (eqb x.term k) (eqb e.term k) (found_more k es e)
   where
     go : (a b : Bool) → is_some (find_entry k (es ++ e ∷ [])) ≡ cond b true (is_some (find_entry k es))
-        → is_some (cond a (Some x.register) (find_entry k (es ++ e ∷ []))) ≡ cond b true (is_some (cond a (Some x.register) (find_entry k es)))
+        → is_some (option_map (λ (y : Entry). y.register) (cond a (Some x) (find (λ (y : Entry). eqb y.term k) (es ++ e ∷ []))))
+        ≡ cond b true (is_some (option_map (λ (y : Entry). y.register) (cond a (Some x) (find (λ (y : Entry). eqb y.term k) es))))
     go true true h = refl
     go true false h = refl
     go false b h = h
@@ -116,16 +108,13 @@ module _ (n : ℕ) (es : List Entry) where
   abbrev pub MarkedUpto : ℕ → List Bool → Type 0
   MarkedUpto i bs = (length bs ≡ n) × ((k : ℕ) → k < n → get_or bs k false ≡ is_some (find_entry k (take i es)))
 
-  pub none_marked : (bs : List Bool) → bs ≡ replicate n false → MarkedUpto 0 bs
-  none_marked bs e = (ap length e ∙ length-replicate n false, λ k h. ap (λ xs. get_or xs k false) e ∙ get_or-replicate n k false false h)
-
   module _ (i : ℕ) (d : Entry) (bs : List Bool) (h : i < length es) (m : MarkedUpto i bs) where
     found_at : (k : ℕ) → is_some (find_entry k (take (i + 1) es)) ≡ cond (eqb (get_or es i d).term k) true (is_some (find_entry k (take i es)))
     found_at k = ap (λ xs. is_some (find_entry k xs)) (take_more es i d h) ∙ found_more k (take i es) (get_or es i d)
 
     -- a mark at the entry's term
-    pub mark_more : (get_or es i d).term < n → MarkedUpto (i + 1) (set bs (get_or es i d).term true)
-    mark_more l = (length-set bs (get_or es i d).term true ∙ m.0, λ k q. go k q (ℕ_discrete k (get_or es i d).term))
+    pub mark_more : MarkedUpto (i + 1) (set bs (get_or es i d).term true)
+    mark_more = (length-set bs (get_or es i d).term true ∙ m.0, λ k q. go k q (ℕ_discrete k (get_or es i d).term))
       where
         go : (k : ℕ) → k < n → Dec (k ≡ (get_or es i d).term) → get_or (set bs (get_or es i d).term true) k false ≡ is_some (find_entry k (take (i + 1) es))
         go k q (yes e) =
@@ -135,10 +124,6 @@ module _ (n : ℕ) (es : List Entry) where
         go k q (no e) =
             get_or-set_other bs (get_or es i d).term k true false e ∙ m.1 k q
             ∙ sym (found_at k ∙ ap (λ b. cond b true (is_some (find_entry k (take i es)))) (ne_eqb (get_or es i d).term k (λ z. e (sym z))))
-
-    -- the entry's term is not among those that are marked
-    pub mark_not : n ≤ (get_or es i d).term → MarkedUpto (i + 1) bs
-    mark_not l = (m.0, λ k q. m.1 k q ∙ sym (found_at k ∙ ap (λ b. cond b true (is_some (find_entry k (take i es)))) (ne_eqb (get_or es i d).term k (λ z. omega arith))))
 
 -- the marks below i are right, those from i on say what is known
 module _ (t : TermTable) (p : Party) (s : RoleState) where
@@ -155,13 +140,24 @@ module _ (t : TermTable) (p : Party) (s : RoleState) where
       left = λ k a b. u.left k (omega arith) b;
     }
 
-    pub sets : (x : Bool) → get_or bs i false ≡ false → (row : TermRow) → Stands (vec_items t.rows) i row → x ≡ row_composable p row bs → Upto (i + 1) (set bs i x)
-    sets x e row d q =
-        let l = u.long in
-        record {
-          long = length-set bs i x ∙ u.long;
-          done = below_more (λ k. get_or (set bs i x) k false ≡ can_be t p s k) i
-              (λ k m. get_or-set_other bs i k x false (λ z. omega arith) ∙ u.done k m)
-              (get_or-set_same bs i x false (omega arith) ∙ q ∙ row_can t s p i h w row d bs u.done (sym e ∙ u.left i (omega arith) h));
-          left = λ k a b. get_or-set_other bs i k x false (λ z. omega arith) ∙ u.left k (omega arith) b;
-        }
+    module _ (e : get_or bs i false ≡ false) (row : TermRow) (d : Stands (vec_items t.rows) i row) where
+      right : (x : Bool) → x ≡ row_composable p row bs → x ≡ can_be t p s i
+      right x q = q ∙ row_can t s p i h w row d bs u.done (sym e ∙ u.left i (omega arith) h)
+
+      pub sets : true ≡ row_composable p row bs → Upto (i + 1) (set bs i true)
+      sets q =
+          let l = u.long in
+          record {
+            long = length-set bs i true ∙ u.long;
+            done = below_more (λ k. get_or (set bs i true) k false ≡ can_be t p s k) i
+                (λ k m. get_or-set_other bs i k true false (λ z. omega arith) ∙ u.done k m)
+                (get_or-set_same bs i true false (omega arith) ∙ right true q);
+            left = λ k a b. get_or-set_other bs i k true false (λ z. omega arith) ∙ u.left k (omega arith) b;
+          }
+
+      pub passes : false ≡ row_composable p row bs → Upto (i + 1) bs
+      passes q = record {
+        long = u.long;
+        done = below_more (λ k. get_or bs k false ≡ can_be t p s k) i u.done (e ∙ right false q);
+        left = λ k a b. u.left k (omega arith) b;
+      }

@@ -1,16 +1,13 @@
 -- A message with its terms: what is left to do of it, and what its sender and its receiver do.
-use Rattle.std.proofs.Common.{◌≡◌, ℕ, zero, suc, ◌<◌, min, List, [], ◌∷◌, ◌++◌, map, length, get_or, drop, set, Ok, Err, vec_items, Result, sym, refl, ap, ◌∙◌}
+use Rattle.std.proofs.Common.{◌≡◌, ℕ, ◌<◌, min, List, map, length, get_or, drop, set, Ok, Err, vec_items, Result, sym, ap, ◌∙◌}
 use Rattle.model.specs.Trees.{Tree}
-use Rattle.syntax.specs.declared.spec.TermNode.{TermNode}
-use Rattle.syntax.specs.Places.{place_of}
-use Rattle.syntax.specs.Specs.{Term, name, tuple, crypt, apply, nodes}
-use Rattle.terms.specs.declared.fault.TermFault.{TermFault}
+use Rattle.syntax.specs.Places.{term_place}
+use Rattle.syntax.specs.Specs.{Term}
 use Rattle.terms.specs.declared.limits.Limits.{Limits}
 use Rattle.terms.specs.declared.table.TermTable.{TermTable}
 use Rattle.terms.specs.Declaring.{bind, with_term}
 use Rattle.terms.specs.Meanings.{Means}
 use Rattle.terms.specs.Numbering.{tree}
-use Rattle.terms.specs.Reads as reads
 use Rattle.terms.specs.Scope.{Scope}
 use Rattle.terms.specs.Starting.{made_among}
 use Rattle.terms.specs.Terms.{tree_in, Grows}
@@ -21,40 +18,18 @@ use Rattle.roles.specs.AllRoles.{AllFit}
 use Rattle.roles.specs.Parties.{makes_of}
 use Rattle.roles.specs.Players.{player_of, Plays}
 use Rattle.roles.specs.Playing.{Player, says, hears}
-use Rattle.roles.specs.Refusals.{to_line}
-use Rattle.roles.specs.Stages.{Stage, refused_by, change, term_place, message}
+use Rattle.roles.specs.Stages.{Stage, change, message}
 use Rattle.roles.specs.Staging.{Refused, Comes}
-use Rattle.roles.proofs.Messaging.{refused_through, refused_path, refused_term, refused_play, changed, not_changed, same_players}
+use Rattle.roles.proofs.Messaging.{refused_through, refused_path, refused_play, changed, not_changed, same_players}
 
--- the place of a term is that of its first node
-at_drop : (xs : List ℕ) (k d : ℕ) → get_or xs k d ≡ get_or (drop k xs) 0 d
-at_drop [] zero d = refl
-at_drop [] (suc k) d = refl
-at_drop (x ∷ xs) zero d = refl
-at_drop (x ∷ xs) (suc k) d = at_drop xs k d
-
-drop_places : (xs : List TermNode) (k : ℕ) → drop k (map (λ (n : TermNode). n.at) xs) ≡ map (λ (n : TermNode). n.at) (drop k xs)
-drop_places xs zero = refl
-drop_places [] (suc k) = refl
-drop_places (x ∷ xs) (suc k) = drop_places xs k
-
-first_place : (t : Term) (rest : List TermNode) → place_of (nodes t ++ rest) 0 ≡ term_place t
-unfolding nodes
-first_place (name at p) rest = refl
-first_place (tuple at ts) rest = refl
-first_place (crypt at t k) rest = refl
-first_place (apply at f ts) rest = refl
-
-pub place_there : (xs : List TermNode) (k : ℕ) (t : Term) (rest : List TermNode) → drop k xs ≡ nodes t ++ rest → place_of xs k ≡ term_place t
-place_there xs k t rest e =
-    at_drop (map (λ (n : TermNode). n.at) xs) k 0 ∙ ap (λ ys. get_or ys 0 0) (drop_places xs k ∙ ap (map (λ (n : TermNode). n.at)) e) ∙ first_place t rest
+-- the names that are new with the terms
+pub made_there : (U V : Scope) {xs ys : List ℕ} {n m : ℕ} → xs ≡ ys → ys ≡ made_among V.names (drop n V.terms) → n ≡ m → length U.terms ≡ m
+    → xs ≡ made_among V.names (drop (length U.terms) V.terms)
+made_there U V e f a b = e ∙ f ∙ ap (λ k. made_among V.names (drop k V.terms)) (a ∙ sym b)
 
 module _ (limits : Limits) (text : List ℕ) (number : ℕ) (t : Term) (i j : ℕ) (U : Scope) (before : TermTable) (rs : List Role) where
   abbrev stage : Stage
   stage = record { scope = U; players = map (player_of before) rs }
-
-  pub terms_refused : (e : TermFault) → reads.Refused (with_term text (min limits.terms 512) t U) e → Refused (message limits text number t i j stage) (to_line e)
-  terms_refused e q = refused_through (refused_by to_line (with_term text (min limits.terms 512) t U)) _ (to_line e) (refused_term _ e q)
 
   module _ (fits : AllFit before rs) (after : TermTable) (grows : Grows before after) (V : Scope) (w : with_term text (min limits.terms 512) t U ≡ Ok V)
       (at : ℕ) (here : at ≡ term_place t) (made : List ℕ) (those : made ≡ made_among V.names (drop (length U.terms) V.terms)) (k : ℕ) (that : tree_in after k ≡ tree text U.names t) where

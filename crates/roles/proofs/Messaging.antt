@@ -1,11 +1,8 @@
 -- A message goes from one role to another as the definition says.
 use Rattle.std.proofs.Common.{◌≡◌, ℕ, zero, suc, ◌<◌, List, [], ◌∷◌, map, length, get_or, set, Ok, Err, Result, sym, refl, ap, ◌∙◌, subst, ap₂, arith}
 use mathlib.Core.Path.{subst⁻¹}
-use Rattle.terms.specs.declared.fault.TermFault.{TermFault}
-use Rattle.terms.specs.declared.fault.TermFault.TheVariants as term_fault
 use Rattle.terms.specs.declared.table.TermTable.{TermTable}
 use Rattle.terms.specs.Declaring.{bind}
-use Rattle.terms.specs.Reads as reads
 use Rattle.terms.specs.Terms.{Grows}
 use Rattle.roles.specs.declared.line_fault.LineFault.{LineFault}
 use Rattle.roles.specs.declared.line_fault.LineFault.TheVariants.{Limit, Undeclared, WrongType, Repeated, Underivable, NoMemory}
@@ -13,8 +10,7 @@ use Rattle.roles.specs.declared.role.Role.{Role}
 use Rattle.roles.specs.AllRoles.{AllFit}
 use Rattle.roles.specs.Players.{player_of, Plays}
 use Rattle.roles.specs.Playing.{Player}
-use Rattle.roles.specs.Refusals.{to_line}
-use Rattle.roles.specs.Stages.{refused_by, change}
+use Rattle.roles.specs.Stages.{change}
 use Rattle.roles.specs.Staging.{Refused}
 use Rattle.roles.proofs.AllFit.{same_player}
 
@@ -29,13 +25,6 @@ refused_through o k NoMemory q = tt
 
 pub refused_path : {A : Type 0} {o u : Result A LineFault} (e : LineFault) → o ≡ u → Refused u e → Refused o e
 refused_path e q r = subst⁻¹ (λ x. Refused x e) q r
-
--- a fault of a term, in a line
-pub refused_term : {A : Type 0} (o : Result A TermFault) (e : TermFault) → reads.Refused o e → Refused (refused_by to_line o) (to_line e)
-refused_term o (term_fault.Limit p) q = ap (refused_by to_line) q
-refused_term o (term_fault.Undeclared p) q = ap (refused_by to_line) q
-refused_term o (term_fault.WrongType p) q = ap (refused_by to_line) q
-refused_term o term_fault.NoMemory q = tt
 
 pub refused_play : (t : TermTable) (o : Result Player LineFault) (r : Role) (e : LineFault) → Plays t o r (Err e) → Refused o e
 refused_play t o r (Limit p) q = q

@@ -1,7 +1,10 @@
 -- The place of a role among the roles, and a role that is new there.
-use Rattle.std.proofs.Common.{◌≡◌, ℕ, zero, suc, ◌+◌, ◌<◌, ◌≤◌, min, Bool, true, false, cond, eqb, leb, List, [], ◌∷◌, ◌++◌, map, length, get_or, drop, Ok, Err, Result, sym, refl, ap, ◌∙◌, arith}
-use Rattle.std.proofs.lemmas.List.{at_drop_more, length-map, map-append}
-use Rattle.std.proofs.lemmas.Bool.{eq-eqb, ne_eqb, lt-ltb, le-ltb, le-leb, lt-leb, cond-true, cond-false}
+use Rattle.std.proofs.Common.{◌≡◌, ℕ, zero, suc, ◌<◌, ◌≤◌, min, Bool, true, false, cond, eqb, leb, List, [], ◌∷◌, ◌++◌, map, length, Some, None, Ok, Err, Result, sym, refl, ap, ◌∙◌, arith}
+use Rattle.std.proofs.lemmas.List.{length-map, map-append}
+use Rattle.std.proofs.lemmas.List.Recursion.{is_position_or_len}
+use Rattle.std.proofs.lemmas.Option.{cond_some, none-some}
+use Rattle.std.specs.List.{position_or_len}
+use Rattle.std.proofs.lemmas.Bool.{eq-eqb, ltb-true, ltb-false, lt-ltb, le-ltb, le-leb, lt-leb, cond-true, cond-false}
 use Rattle.model.specs.Roles.{start}
 use Rattle.syntax.specs.declared.spec.Name.{Name}
 use Rattle.terms.specs.declared.limits.Limits.{Limits}
@@ -16,6 +19,7 @@ use Rattle.roles.specs.Players.{player_of}
 use Rattle.roles.specs.Playing.{Player, over}
 use Rattle.roles.specs.Starting.{party_in, started, StartsAs}
 use Rattle.roles.specs.Stages.{Stage, place_among, with_role}
+use Rattle.roles.specs.AllRoles.{place_of}
 use Rattle.roles.specs.Staging.{Refused}
 
 -- the name of a role that came out, or another
@@ -27,18 +31,24 @@ module _ (t : TermTable) (n : ℕ) where
   abbrev pub place : List Role → ℕ
   place rs = place_among n (map (player_of t) rs)
 
-  module _ (rs : List Role) (i : ℕ) (e : place rs ≡ i + place (drop i rs)) where
-    at_role : (d : Role) (b : Bool) → i < length rs → eqb (get_or rs i d).name n ≡ b → place rs ≡ i + cond b zero (suc (place (drop (i + 1) rs)))
-    at_role d b h q = e ∙ ap (λ k. i + k) (at_drop_more place rs i d h ∙ ap (λ v. cond v zero (suc (place (drop (i + 1) rs)))) q)
+  -- the place, as the library counts it
+  place_is : (rs : List Role) → place rs ≡ position_or_len (λ (r : Role). eqb r.name n) rs
+  place_is = is_position_or_len place (λ (r : Role). eqb r.name n) refl (λ r rs. ap (λ k. cond (eqb r.name n) zero k) (omega arith))
 
-    pub placed_here : (d : Role) → i < length rs → (get_or rs i d).name ≡ n → i ≡ place rs
-    placed_here d h q = let p = at_role d true h (eq-eqb _ _ q) in omega arith
+  pub placed_here : (rs : List Role) (k : ℕ) → Some k ≡ place_of n rs → (k ≡ place rs) × (k < length rs)
+  placed_here rs k e =
+      let f = cond_some _ _ _ (sym e) in
+      let l = ltb-true _ _ f.0 in
+      let p = place_is rs in
+      let q = f.1 in
+      (omega arith, omega arith)
 
-    pub placed_later : (d : Role) → i < length rs → ¬ ((get_or rs i d).name ≡ n) → place rs ≡ (i + 1) + place (drop (i + 1) rs)
-    placed_later d h q = let p = at_role d false h (ne_eqb _ _ q) in omega arith
-
-    pub placed_nowhere : length rs ≤ i → length rs ≤ place rs
-    placed_nowhere h = let p = e in omega arith
+  pub placed_nowhere : (rs : List Role) → None ≡ place_of n rs → length rs ≤ place rs
+  placed_nowhere rs e = let p = place_is rs in let l = ltb-false _ _ (none_cond _ _ e) in omega arith
+    where
+      none_cond : (b : Bool) (k : ℕ) → None ≡ cond b (Some k) None → b ≡ false
+      none_cond true k h = absurd (none-some k h)
+      none_cond false k h = refl
 
   -- a role of that name behind the others, of which none has it
   pub placed_last : (rs : List Role) (r : Role) → r.name ≡ n → length rs ≤ place rs → length rs ≡ place (rs ++ (r ∷ []))

@@ -2,8 +2,8 @@
 use Rattle.std.specs.Prelude.{ℕ, zero, suc, min, cond, List, [], ◌∷◌, ◌++◌, length, drop, Ok, Err, Result, ◌==◌, nat_le, nat_lt}
 use Rattle.syntax.specs.declared.spec.Label.{Label}
 use Rattle.syntax.specs.declared.spec.Name.{Name}
-use Rattle.syntax.specs.Places.{label_place}
-use Rattle.syntax.specs.Specs.{Term, name, tuple, crypt, apply, Lined}
+use Rattle.syntax.specs.Places.{term_place}
+use Rattle.syntax.specs.Specs.{Term, Lined}
 use Rattle.terms.specs.declared.limits.Limits.{Limits}
 use Rattle.terms.specs.Declaring.{bind, principal, with_term}
 use Rattle.terms.specs.Numbering.{tree}
@@ -11,7 +11,7 @@ use Rattle.terms.specs.Scope.{Scope}
 use Rattle.terms.specs.Starting.{made_among}
 use Rattle.roles.specs.declared.line_fault.LineFault.{LineFault}
 use Rattle.roles.specs.declared.line_fault.LineFault.TheVariants.{Limit, Repeated}
-use Rattle.roles.specs.Labels.{equal_labels}
+use Rattle.roles.specs.Labels.{unused}
 use Rattle.roles.specs.Parties.{makes_of}
 use Rattle.roles.specs.Playing.{Player, says, hears}
 use Rattle.roles.specs.Refusals.{to_line}
@@ -27,11 +27,6 @@ abbrev pub refused_by : {A E F : Type 0} → (E → F) → Result A E → Result
 refused_by f (Ok x) = Ok x
 refused_by f (Err e) = Err (f e)
 
--- a label among the earlier ones is refused at its place
-abbrev pub unused : List ℕ → List Label → Label → Result (Unit {0}) LineFault
-unused text [] b = Ok tt
-unused text (a ∷ earlier) b = cond (equal_labels text a b) (Err (Repeated (label_place b))) (unused text earlier b)
-
 -- the place of the role of this name: behind all roles if there is none
 abbrev pub place_among : ℕ → List Player → ℕ
 place_among n [] = zero
@@ -42,13 +37,6 @@ abbrev pub change : ℕ → (Player → Result Player LineFault) → List Player
 change k f [] = Ok []
 change zero f (p ∷ ps) = bind (f p) (λ q. Ok (q ∷ ps))
 change (suc k) f (p ∷ ps) = bind (change k f ps) (λ qs. Ok (p ∷ qs))
-
--- the first byte of a term
-abbrev pub term_place : Term → ℕ
-term_place (name at p) = at
-term_place (tuple at ts) = at
-term_place (crypt at t k) = at
-term_place (apply at f ts) = at
 
 module _ (limits : Limits) (text : List ℕ) where
   -- a role starts where it stands first

@@ -1,9 +1,6 @@
 -- What the code's translations are to the definitions.
-use Rattle.std.specs.Prelude.{◌≡◌, ℕ, ◌<◌, ◌⊎◌, List, ◌++◌, map, length, drop, None, Ok, Err, vec_items, Result}
-use Rattle.syntax.specs.declared.spec.TermNode.{TermNode}
-use Rattle.syntax.specs.Specs.{Term, nodes}
+use Rattle.std.specs.Prelude.{◌≡◌, ℕ, ◌<◌, ◌⊎◌, List, map, length, None, Ok, Err, vec_items, Result}
 use Rattle.terms.specs.Meanings.{Means}
-use Rattle.terms.specs.Narrow.{Narrow}
 use Rattle.terms.specs.Scope.{Scope}
 use Rattle.roles.specs.declared.line_fault.LineFault.{LineFault}
 use Rattle.roles.specs.declared.line_fault.LineFault.TheVariants.{Limit, Undeclared, WrongType, Repeated, Underivable, NoMemory}
@@ -44,12 +41,6 @@ Comes q T (Err f) = Refused q f
 abbrev pub FindsRole : ℕ → Result Stage LineFault → Translation → Result ℕ LineFault → Type 0
 FindsRole n q T (Ok k) = Staged q T × (k ≡ place_among n (players_of T)) × (k < length (vec_items T.roles))
 FindsRole n q T (Err f) = Refused q f
-
--- a term whose nodes stand at a place
-pub record TermAt (terms : List TermNode) (i : ℕ) (t : Term) : Type 0 where
-  pub rest : List TermNode
-  pub stands : drop i terms ≡ nodes t ++ rest
-  pub narrow : Narrow t
 
 -- the whole answer: a fault that is no refusal is want of memory
 abbrev pub Translates : Result Stage TranslationFault → Result Translation TranslationFault → Type 0

@@ -8,25 +8,22 @@ use syntax::spec::{Label, Line};
 pub(crate) fn fresh_label(text: &[u8], earlier: &[Line], label: Label) -> Result<(), LineFault>
     ensures { result ≡ new_label text.now earlier.now label }
 {
-    for line in earlier {
-        if same_label(text, line.label, label) {
-            return Err(LineFault::Repeated { at: label.place() });
-        }
+    if earlier
+        .iter()
+        .any(|line| same_label(text, line.label, label))
+    {
+        return Err(LineFault::Repeated { at: label.place() });
     }
     Ok(())
 }
 
+// A label's name is a part of the text, so no derive compares it.
 fn same_label(text: &[u8], a: Label, b: Label) -> bool
     ensures { result ≡ equal_labels text.now a b }
 {
-    match a {
-        Label::Number { at: _, value: m } => match b {
-            Label::Number { at: _, value: n } => m == n,
-            Label::Name(_) => false,
-        },
-        Label::Name(m) => match b {
-            Label::Number { at: _, value: _ } => false,
-            Label::Name(n) => m.part.of(text) == n.part.of(text),
-        },
+    match (a, b) {
+        (Label::Number { value: m, .. }, Label::Number { value: n, .. }) => m == n,
+        (Label::Name(m), Label::Name(n)) => m.part.of(text) == n.part.of(text),
+        _ => false,
     }
 }

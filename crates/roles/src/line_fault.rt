@@ -3,12 +3,12 @@ ghost use Rattle.std.specs.Prelude.{◌≡◌};
 ghost use Rattle.roles.specs.Refusals.{line_refusal, to_line};
 ghost use Rattle.roles.specs.declared.line_fault.LineFault.TheVariants as line_faults;
 
-use std::alloc::AllocFailed;
+use std::alloc::{AllocError, AllocFailed};
 use terms::fault::TermFault;
-use text::fault::Refusal;
+use text::refusal::{Cause, Layer, Refusal};
 
 // The place is the first byte of a label, a role's name, the message, or a node within it.
-#[derive(Clone, Copy, Debug)]
+#[derive(Clone, Copy, PartialEq, Eq, Debug)]
 pub enum LineFault {
     // there are too many roles, terms, registers or actions
     Limit { at: usize },
@@ -23,25 +23,21 @@ pub enum LineFault {
 }
 
 impl LineFault {
-    // Want of memory is no refusal.
+    // Want of memory is no refusal: an `Option`, and no `From`.
     pub fn refusal(&self) -> Option<Refusal>
         ensures { result ≡ line_refusal self.now }
     {
-        let (number, place) = match *self {
-            LineFault::Limit { at } => (1, at),
-            LineFault::Undeclared { at } => (7, at),
-            LineFault::WrongType { at } => (8, at),
-            LineFault::Repeated { at } => (9, at),
-            LineFault::Underivable {
-                at,
-                role: _,
-                term: _,
-            } => (10, at),
+        let (cause, place) = match *self {
+            LineFault::Limit { at } => (Cause::Limit, at),
+            LineFault::Undeclared { at } => (Cause::Undeclared, at),
+            LineFault::WrongType { at } => (Cause::WrongType, at),
+            LineFault::Repeated { at } => (Cause::Repeated, at),
+            LineFault::Underivable { at, .. } => (Cause::Underivable, at),
             LineFault::NoMemory => return None,
         };
         Some(Refusal {
-            number,
-            layer: 4,
+            cause,
+            layer: Layer::Lines,
             place,
         })
     }
@@ -60,10 +56,19 @@ impl From<TermFault> for LineFault {
     }
 }
 
+// `?` asks for these of each type of error.
 impl<T: Drop> From<AllocFailed<T>> for LineFault {
     ghost from_gives = { λ _ r. r ≡ line_faults.NoMemory };
 
     fn from(_refused: AllocFailed<T>) -> LineFault {
+        LineFault::NoMemory
+    }
+}
+
+impl From<AllocError> for LineFault {
+    ghost from_gives = { λ _ r. r ≡ line_faults.NoMemory };
+
+    fn from(_error: AllocError) -> LineFault {
         LineFault::NoMemory
     }
 }

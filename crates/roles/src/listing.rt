@@ -8,18 +8,17 @@ use std::fmt::Write;
 impl Translation {
     // A line with the role's name, then its rows, for each role. There is an error only for want of memory.
     pub fn listing(&self, heap: Global, text: &[u8]) -> Result<String, fmt::Error> {
-        let mut names = Vec::new(heap);
-        for function in self.declarations.functions.as_slice() {
-            if names.push(function.name.of(text)).is_err() {
-                return Err(fmt::Error);
-            }
-        }
+        let functions = self.declarations.functions.iter();
+        let names: Vec<&[u8]> = functions
+            .map(|function| function.name.of(text))
+            .collect(heap)
+            .map_err(|_| fmt::Error)?;
         let mut out = String::new(heap);
-        for role in self.roles.as_slice() {
+        for role in &self.roles {
             out.write_str("role ")?;
             print_name(&mut out, role.part.of(text))?;
             out.write_str("\n")?;
-            for row in role.rows.as_slice() {
+            for row in &role.rows {
                 print_row(&mut out, *row, names.as_slice())?;
             }
         }

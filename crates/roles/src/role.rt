@@ -9,25 +9,36 @@ ghost use Rattle.roles.specs.Playing.{says, hears};
 ghost use Rattle.roles.specs.Starting.{started, StartsAs};
 ghost use Rattle.roles.specs.Players.{player_of, Plays};
 ghost use Rattle.roles.specs.Roles.{Fit, Keeps};
-ghost use Rattle.roles.specs.Ended.{too_much, refused_as, KeepsRest, Ends};
+ghost use Rattle.roles.specs.Ended.{too_much, KeepsRest, Ends};
 
-use crate::fault::Fault;
 use crate::line_fault::LineFault;
 use crate::party::Party;
 use crate::state::RoleState;
+use crate::view::View;
 use program::action::Row;
 use std::alloc::Global;
 use syntax::spec::Name;
 use terms::declarations::Declarations;
-use terms::limits::{Limits, MOST_ACTIONS, MOST_REGISTERS};
+use terms::limits::Limits;
 use terms::table::TermTable;
 use text::part::Part;
 
+// The line that a role is at, with the place of a fault in it and the limits.
+#[derive(Clone, Copy)]
+pub(crate) struct Turn {
+    pub(crate) line: usize,
+    pub(crate) at: usize,
+    pub(crate) limits: Limits,
+}
+
+// That its party and state fit a table is said where a role is handed on: an invariant would have to hold after an error too, which
+// leaves it half way.
 #[derive(Drop)]
 pub struct Role {
     // the role's name, by number, and where it stands in the text
     pub name: u8,
     pub part: Part,
+    // the actions of the state, with their lines, of which composing and settling know nothing
     pub rows: Vec<Row>,
     party: Party,
     state: RoleState,
@@ -55,83 +66,79 @@ impl Role {
             party,
             state: RoleState::new(heap),
         };
-        match role
-            .state
-            .start(&declarations.terms, &role.party, terms.as_slice())
-        {
+        let view = View {
+            table: &declarations.terms,
+            party: &role.party,
+        };
+        let turn = Turn {
+            line: 0,
+            at: name.at,
+            limits,
+        };
+        match role.state.start(view, terms.as_slice()) {
             Ok(()) => {
-                role.end_line(0, name.at, limits)?;
+                role.end_line(turn)?;
                 Ok(role)
             }
-            Err(fault) => Err(role.refused(fault, name.at)),
+            Err(fault) => Err(fault.of_role(number, name.at)),
         }
     }
 
-    // The role says a term, in which some names may be made.
+    // The role says a term, in which some names may be made. By a `match`, here and in `start` and `hear`: with `map_err` and `?`, what
+    // a fault leaves in the role takes a longer proof.
     pub(crate) fn say(
         &mut self,
         table: &TermTable,
-        line: usize,
+        turn: Turn,
         made: &[u8],
         term: u16,
-        at: usize,
-        limits: Limits,
     ) -> Result<(), LineFault>
-        requires { (term < size table.now) × (Fit table.now self.old.party self.old.state) }
+        requires within { term < size table.now }
+        requires fits { Fit table.now self.old.party self.old.state }
         ensures fits { Keeps table.now self.new.party self.new.state result }
-        ensures plays { (us : List Tree) → Lists table.now us → Plays table.now (says limits line at us (makes_of made.now) (tree_in table.now term) (player_of table.now self.old)) self.new result }
+        ensures plays { (us : List Tree) → Lists table.now us → Plays table.now (says turn.limits turn.line turn.at us (makes_of made.now) (tree_in table.now term) (player_of table.now self.old)) self.new result }
     {
-        match self.state.say(table, &self.party, made, term) {
-            Ok(()) => self.end_line(line, at, limits),
-            Err(fault) => Err(self.refused(fault, at)),
+        let view = View {
+            table,
+            party: &self.party,
+        };
+        match self.state.say(view, made, term) {
+            Ok(()) => self.end_line(turn),
+            Err(fault) => Err(fault.of_role(self.name, turn.at)),
         }
     }
 
-    pub(crate) fn hear(
-        &mut self,
-        table: &TermTable,
-        line: usize,
-        term: u16,
-        at: usize,
-        limits: Limits,
-    ) -> Result<(), LineFault>
-        requires { (term < size table.now) × (Fit table.now self.old.party self.old.state) }
+    pub(crate) fn hear(&mut self, table: &TermTable, turn: Turn, term: u16) -> Result<(), LineFault>
+        requires within { term < size table.now }
+        requires fits { Fit table.now self.old.party self.old.state }
         ensures fits { Keeps table.now self.new.party self.new.state result }
-        ensures plays { Plays table.now (hears limits line at (tree_in table.now term) (player_of table.now self.old)) self.new result }
+        ensures plays { Plays table.now (hears turn.limits turn.line turn.at (tree_in table.now term) (player_of table.now self.old)) self.new result }
     {
-        match self.state.hear(table, &self.party, term) {
-            Ok(()) => self.end_line(line, at, limits),
-            Err(fault) => Err(self.refused(fault, at)),
-        }
-    }
-
-    // A fault of the role, at a place.
-    fn refused(&self, fault: Fault, at: usize) -> LineFault
-        ensures { result ≡ refused_as self.now.name at fault }
-    {
-        match fault {
-            Fault::Lacks(term) => LineFault::Underivable {
-                at,
-                role: self.name,
-                term,
-            },
-            Fault::NoMemory => LineFault::NoMemory,
+        let view = View {
+            table,
+            party: &self.party,
+        };
+        match self.state.hear(view, term) {
+            Ok(()) => self.end_line(turn),
+            Err(fault) => Err(fault.of_role(self.name, turn.at)),
         }
     }
 
     // The actions that were added belong to a line. Only now are the limits looked at: a message that cannot be derived is
     // refused as such, however many registers it takes until that shows.
-    fn end_line(&mut self, line: usize, at: usize, limits: Limits) -> Result<(), LineFault>
+    fn end_line(&mut self, turn: Turn) -> Result<(), LineFault>
         ensures rest { KeepsRest self.old self.new }
-        ensures ends { Ends limits line at self.old self.new result }
+        ensures ends { Ends turn.limits turn.line turn.at self.old self.new result }
     {
-        if self.too_much(limits) {
-            return Err(LineFault::Limit { at });
+        if self.too_much(turn.limits) {
+            return Err(LineFault::Limit { at: turn.at });
         }
-        for number in self.rows.len()..self.state.actions.len() {
-            let action = self.state.actions[number];
-            self.rows.push(Row { line, action })?;
-        }
+        let done = self.rows.len();
+        let added = self.state.actions.iter().skip(done);
+        self.rows.extend(added.map(|action| Row {
+            line: turn.line,
+            action: *action,
+        }))?;
         Ok(())
     }
 
@@ -139,8 +146,7 @@ impl Role {
     fn too_much(&self, limits: Limits) -> bool
         ensures { result ≡ too_much limits self.now }
     {
-        let registers = limits.registers.min(MOST_REGISTERS);
-        let actions = limits.actions.min(MOST_ACTIONS);
-        self.state.next as usize > registers || self.state.actions.len() > actions
+        self.state.next as usize > limits.most_registers()
+            || self.state.actions.len() > limits.most_actions()
     }
 }

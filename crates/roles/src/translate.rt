@@ -13,23 +13,14 @@ pub fn translate(
     text: &[u8],
     limits: Limits,
 ) -> Result<Translation, TranslationFault> {
-    let nodes = read_text(heap, text)?;
-    let source = Source {
-        text,
-        nodes: &nodes,
-    };
-    let spec = source.spec(heap)?;
+    let tree = read_text(heap, text)?;
+    let spec = Source { heap, text }.spec(&tree)?;
     let declarations = Declarations::read(heap, text, &spec, limits)?;
     let mut translation = Translation {
         declarations,
         roles: Vec::new(heap),
     };
-    let input = Input {
-        heap,
-        text,
-        spec: &spec,
-        limits,
-    };
-    translation.lines(input)?;
+    let input = Input { heap, text, limits };
+    translation.lines(input, &spec.lines)?;
     Ok(translation)
 }

@@ -1,30 +1,31 @@
 // The lines of a specification: label, roles with their starts, types and terms of the message, sender, receiver.
-ghost use Rattle.std.specs.Prelude.{◌<◌, length};
-ghost use Rattle.syntax.specs.Specs.{Term};
+ghost use Rattle.std.specs.Prelude.{◌≡◌, ◌<◌, length};
+ghost use Rattle.syntax.specs.Views.{term_of};
 ghost use Rattle.terms.specs.Scope.{Scope};
 ghost use Rattle.terms.specs.Meanings.{Means};
-ghost use Rattle.roles.specs.AllRoles.{AllFit, AllKeep, Placed};
+ghost use Rattle.terms.specs.Narrow.{Narrow};
+ghost use Rattle.roles.specs.AllRoles.{AllFit, AllKeep, Placed, place_of};
 ghost use Rattle.roles.specs.Stages as stages;
-ghost use Rattle.roles.specs.Staging.{stage_of, TermAt, Comes, FindsRole};
+ghost use Rattle.roles.specs.Staging.{stage_of, Comes, FindsRole};
 
 use crate::label::fresh_label;
 use crate::line_fault::LineFault;
-use crate::role::Role;
+use crate::role::{Role, Turn};
 use std::alloc::Global;
-use syntax::spec::{Line, Name, Spec};
+use syntax::spec::{Line, Name, Term};
 use terms::declarations::Declarations;
-use terms::limits::{Limits, MOST_ROLES};
+use terms::limits::Limits;
 
 // What the lines are read from.
 #[derive(Clone, Copy)]
 pub(crate) struct Input<'a> {
     pub(crate) heap: Global,
     pub(crate) text: &'a [u8],
-    pub(crate) spec: &'a Spec,
     pub(crate) limits: Limits,
 }
 
-// The declarations, and the roles in order of first standing in a line, each with its program.
+// The declarations, and the roles in order of first standing in a line, each with its program. That the roles fit the terms is no
+// invariant: a role that failed half way does not.
 #[derive(Drop)]
 pub struct Translation {
     pub declarations: Declarations,
@@ -32,18 +33,17 @@ pub struct Translation {
 }
 
 impl Translation {
-    pub(crate) fn lines(&mut self, input: Input) -> Result<(), LineFault>
+    pub(crate) fn lines(&mut self, input: Input, lines: &[Line]) -> Result<(), LineFault>
         requires { AllFit self.old.declarations.terms self.old.roles.items }
     {
-        let lines = input.spec.lines.as_slice();
-        for index in 0..lines.len() {
-            fresh_label(input.text, &lines[0..index], lines[index].label)?;
-            self.line(input, index + 1, lines[index])?;
+        for (index, line) in lines.iter().enumerate() {
+            fresh_label(input.text, &lines[..index], line.label)?;
+            self.line(input, index + 1, line)?;
         }
         Ok(())
     }
 
-    fn line(&mut self, input: Input, number: usize, line: Line) -> Result<(), LineFault>
+    fn line(&mut self, input: Input, number: usize, line: &Line) -> Result<(), LineFault>
         requires { AllFit self.old.declarations.terms self.old.roles.items }
         ensures { AllKeep self.new.declarations.terms self.new.roles.items result }
     {
@@ -56,7 +56,14 @@ impl Translation {
             });
         }
         let receiver_place = self.role(input, receiver, line.receiver)?;
-        self.message(input, number, line.message, sender_place, receiver_place)
+        self.message(input, number, &line.message, sender_place, receiver_place)
+    }
+
+    // The role of this name, by its place: sender and receiver are changed in turn, and two `&mut` into one list are not to be had.
+    fn place_of(&self, number: u8) -> Option<usize>
+        ensures { result ≡ place_of number self.now.roles.items }
+    {
+        self.roles.iter().position(|role| role.name == number)
     }
 
     // The place of a role among the roles. A role starts where it stands first.
@@ -66,12 +73,10 @@ impl Translation {
         ensures finds { (U : Scope) → Means self.old.declarations U → FindsRole number (stages.with_role input.entry.limits input.entry.text.now number name (stage_of self.old U)) self.new result }
     {
         let place = self.roles.len();
-        for earlier in 0..place {
-            if self.roles[earlier].name == number {
-                return Ok(earlier);
-            }
+        if let Some(earlier) = self.place_of(number) {
+            return Ok(earlier);
         }
-        if place >= input.limits.roles.min(MOST_ROLES) {
+        if place >= input.limits.most_roles() {
             return Err(LineFault::Limit { at: name.at });
         }
         let role = Role::start(input.heap, &self.declarations, number, name, input.limits)?;
@@ -84,29 +89,25 @@ impl Translation {
         &mut self,
         input: Input,
         number: usize,
-        message: usize,
+        message: &Term,
         sender: usize,
         receiver: usize,
     ) -> Result<(), LineFault>
-        requires { (AllFit self.old.declarations.terms self.old.roles.items) × ((sender < length self.old.roles.items) × (receiver < length self.old.roles.items)) }
+        requires fit { AllFit self.old.declarations.terms self.old.roles.items }
+        requires sender { sender < length self.old.roles.items }
+        requires receiver { receiver < length self.old.roles.items }
         ensures keeps { AllKeep self.new.declarations.terms self.new.roles.items result }
-        ensures comes { (U : Scope) → Means self.old.declarations U → (t : Term) → TermAt input.entry.spec.now.terms.items message t → Comes (stages.message input.entry.limits input.entry.text.now number t sender receiver (stage_of self.old U)) self.new result }
+        ensures comes { (U : Scope) → Means self.old.declarations U → Narrow (term_of message.now) → Comes (stages.message input.entry.limits input.entry.text.now number (term_of message.now) sender receiver (stage_of self.old U)) self.new result }
     {
-        let at = input.spec.place(message);
-        let limits = input.limits;
+        let turn = Turn {
+            line: number,
+            at: message.place(),
+            limits: input.limits,
+        };
         let before = self.declarations.terms.len();
-        let term = self
-            .declarations
-            .term(input.text, input.spec, message, limits)?;
+        let term = self.declarations.term(input.text, message, input.limits)?;
         let made = self.declarations.made_since(input.heap, before)?;
-        self.roles[sender].say(
-            &self.declarations.terms,
-            number,
-            made.as_slice(),
-            term,
-            at,
-            limits,
-        )?;
-        self.roles[receiver].hear(&self.declarations.terms, number, term, at, limits)
+        self.roles[sender].say(&self.declarations.terms, turn, made.as_slice(), term)?;
+        self.roles[receiver].hear(&self.declarations.terms, turn, term)
     }
 }

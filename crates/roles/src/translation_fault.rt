@@ -6,10 +6,11 @@ ghost use Rattle.roles.specs.declared.translation_fault.TranslationFault.TheVari
 use crate::line_fault::LineFault;
 use syntax::fault::ShapeFault;
 use terms::fault::DeclarationFault;
-use text::fault::{Refusal, TextFault};
+use text::fault::TextFault;
+use text::refusal::Refusal;
 
 // A text is refused by the text, the tree's shape, the declarations or the lines.
-#[derive(Clone, Copy, Debug)]
+#[derive(Clone, Copy, PartialEq, Eq, Debug)]
 pub enum TranslationFault {
     Text(TextFault),
     Shape(ShapeFault),

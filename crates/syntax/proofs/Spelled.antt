@@ -1,12 +1,17 @@
 -- Symbols by their names.
-use Rattle.std.proofs.Common.{◌≡◌, ℕ, Bool, true, false, cond, List, [], ◌∷◌, Some, None, codes, Decides, Option, sym, refl, ap, ◌∙◌, subst, arith, Bor}
+use Rattle.std.proofs.Common.{◌≡◌, ℕ, Bool, true, false, cond, ◌||◌, List, [], ◌∷◌, Some, None, codes, Decides, Option, sym, refl, ap, ◌∙◌, rules, Bor}
+use Rattle.std.specs.List.{list_any, find}
+use Rattle.std.specs.Option.{option_map}
 use Rattle.std.specs.Str.{bytes_eq}
 use Rattle.std.proofs.lemmas.Slice.Eq.{bytes_eq-Decides, slice_eq-Decides}
 use Rattle.std.proofs.lemmas.Bool.Decides.{Decides-eqb}
 use Rattle.std.proofs.Math.Dec.{eqb}
 use lib.Pointwise.{pointwise}
+use Rattle.syntax.specs.declared.symbol.Section.{Section}
+use Rattle.syntax.specs.declared.symbol.Section.TheVariants as sections
 use Rattle.syntax.specs.declared.symbol.Symbol.{Symbol}
 use Rattle.syntax.specs.declared.symbol.Symbol.TheVariants as symbols
+use Rattle.syntax.specs.contracts.symbol.SymbolPartialEq.TheImpl as symbol_eq
 use Rattle.syntax.specs.Seeing.{section_word}
 use Rattle.syntax.specs.Symbols.{carried, not_carried, found, one_of, other, symbol, entries, spellings}
 
@@ -19,156 +24,173 @@ decided xs ys r e = go r (bytes_eq ys xs) (slice_eq-Decides Decides-eqb xs ys r 
     go false true p q = sym (p.1 (sym (q.0 refl)))
     go false false p q = refl
 
--- what stands past the end of a table of spellings, and of a list of them
-abbrev pub no_word : Bor (List ℕ)
-no_word = record { ref_ptr = (0, 0); now = [] }
-
-abbrev pub no_entry : Bor (List ℕ) × Symbol
-no_entry = (no_word, symbols.Spec)
-
 pub same_so : (xs ys : List ℕ) → bytes_eq xs ys ≡ true → xs ≡ ys
 same_so xs ys h = (bytes_eq-Decides xs ys).0 h
 
-pub found_step : (name : List ℕ) (x : Bor (List ℕ) × Symbol) (xs : List (Bor (List ℕ) × Symbol)) → found name (entries (x ∷ xs)) ≡ cond (bytes_eq name x.0.now) (Some x.1) (found name (entries xs))
+-- what `find` and `contains` answer
+found_first : (name : List ℕ) (es : List (Bor (List ℕ) × Symbol)) → option_map (λ e. e.1) (find (λ e. pointwise eqb e.0.now name) es) ≡ found name (entries es)
 unfolding found
-found_step name x xs = refl
+found_first name [] = refl
+found_first name (e ∷ es) = go (pointwise eqb e.0.now name) (bytes_eq name e.0.now) (decided e.0.now name (pointwise eqb e.0.now name) refl) (found_first name es)
+  where
+    go : (a b : Bool) → b ≡ a → option_map (λ i. i.1) (find (λ i. pointwise eqb i.0.now name) es) ≡ found name (entries es) → option_map (λ i. i.1) (cond a (Some e) (find (λ i. pointwise eqb i.0.now name) es)) ≡ cond b (Some e.1) (found name (entries es))
+    go true true p h = refl
+    go false false p h = h
+    go true false p h = cc
+    go false true p h = cc
 
-pub one_step : (name : List ℕ) (x : Bor (List ℕ)) (xs : List (Bor (List ℕ))) → one_of name (spellings (x ∷ xs)) ≡ cond (bytes_eq name x.now) true (one_of name (spellings xs))
+module _ (name : List ℕ) (es : List (Bor (List ℕ) × Symbol)) (o : Option (Bor (Bor (List ℕ) × Symbol))) where
+  pub first_found : (e : Bor (Bor (List ℕ) × Symbol)) → o ≡ Some e → option_map (λ x. x.now) o ≡ find (λ x. pointwise eqb x.0.now name) es → Some e.now.1 ≡ found name (entries es)
+  first_found e w h = ap (λ (p : Option (Bor (Bor (List ℕ) × Symbol))). option_map (λ x. x.now.1) p) (sym w) ∙ twice o ∙ ap (option_map (λ x. x.1)) h ∙ found_first name es
+    where
+      twice : (p : Option (Bor (Bor (List ℕ) × Symbol))) → option_map (λ x. x.now.1) p ≡ option_map (λ x. x.1) (option_map (λ x. x.now) p)
+      twice None = refl
+      twice (Some x) = refl
+
+  pub none_found : o ≡ None → option_map (λ x. x.now) o ≡ find (λ x. pointwise eqb x.0.now name) es → None ≡ found name (entries es)
+  none_found w h = ap (λ (p : Option (Bor (Bor (List ℕ) × Symbol))). option_map (λ x. x.1) (option_map (λ x. x.now) p)) (sym w) ∙ ap (option_map (λ x. x.1)) h ∙ found_first name es
+
+pub any_spelled : (name : List ℕ) (ns : List (Bor (List ℕ))) → list_any (λ n. pointwise eqb n.now name) ns ≡ one_of name (spellings ns)
 unfolding one_of
-one_step name x xs = refl
+any_spelled name [] = refl
+any_spelled name (n ∷ ns) = go (pointwise eqb n.now name) (bytes_eq name n.now) (decided n.now name (pointwise eqb n.now name) refl) (any_spelled name ns)
+  where
+    go : (a b : Bool) → b ≡ a → list_any (λ i. pointwise eqb i.now name) ns ≡ one_of name (spellings ns) → (a || list_any (λ i. pointwise eqb i.now name) ns) ≡ cond b true (one_of name (spellings ns))
+    go true true p h = refl
+    go false false p h = h
+    go true false p h = cc
+    go false true p h = cc
 
-pub found_none : (name : List ℕ) → None ≡ found name (entries [])
-unfolding found
-found_none name = refl
-
-pub one_none : (name : List ℕ) → false ≡ one_of name (spellings [])
-unfolding one_of
-one_none name = refl
-
--- What a symbol's name is.
+-- What a symbol is called, unless it is not carried.
 abbrev class_word : Bool → Bool → List ℕ
 class_word false false = codes "function"
 class_word true false = codes "secret-function"
 class_word false true = codes "one-way-function"
 class_word true true = codes "secret-one-way-function"
 
-abbrev pub fits : Symbol → List ℕ → Bool
-fits symbols.Spec n = bytes_eq n (codes "spec")
-fits symbols.Declare n = bytes_eq n (codes "declare")
-fits symbols.Type n = bytes_eq n (codes "type")
-fits symbols.TypeShared n = bytes_eq n (codes "type-shared")
-fits (symbols.FunctionType c) n = bytes_eq n (class_word c.secret c.one_way)
-fits symbols.Knows n = bytes_eq n (codes "knows")
-fits symbols.EverybodyKnows n = bytes_eq n (codes "everybody-knows")
-fits symbols.Block n = bytes_eq n (codes "block")
-fits symbols.Comm n = bytes_eq n (codes "comm")
-fits symbols.Tuple n = bytes_eq n (codes "tuple")
-fits symbols.Crypt n = bytes_eq n (codes "crypt")
-fits symbols.Vanilla n = bytes_eq n (codes "vanilla")
-fits symbols.Apply n = bytes_eq n (codes "apply")
-fits (symbols.Section s) n = bytes_eq n (codes (section_word s))
-fits symbols.NotCarried n = one_of n not_carried
-fits symbols.Unknown n = true
+abbrev word_of : Symbol → Option (List ℕ)
+word_of symbols.Spec = Some (codes "spec")
+word_of symbols.Declare = Some (codes "declare")
+word_of symbols.Type = Some (codes "type")
+word_of symbols.TypeShared = Some (codes "type-shared")
+word_of (symbols.FunctionType c) = Some (class_word c.secret c.one_way)
+word_of symbols.Knows = Some (codes "knows")
+word_of symbols.EverybodyKnows = Some (codes "everybody-knows")
+word_of symbols.Block = Some (codes "block")
+word_of symbols.Comm = Some (codes "comm")
+word_of symbols.Tuple = Some (codes "tuple")
+word_of symbols.Crypt = Some (codes "crypt")
+word_of symbols.Vanilla = Some (codes "vanilla")
+word_of symbols.Apply = Some (codes "apply")
+word_of (symbols.Section s) = Some (codes (section_word s))
+word_of symbols.NotCarried = None
+word_of symbols.Unknown = None
 
-abbrev all_fit : List (List ℕ × Symbol) → Bool
-all_fit [] = true
-all_fit (e ∷ es) = cond (fits e.1 e.0) (all_fit es) false
+abbrev Worded : List (List ℕ × Symbol) → Type 0
+Worded [] = Unit {0}
+Worded (e ∷ es) = (word_of e.1 ≡ Some e.0) × Worded es
 
-found_fits : (name : List ℕ) (es : List (List ℕ × Symbol)) → all_fit es ≡ true → (x : Symbol) → found name es ≡ Some x → fits x name ≡ true
+worded : Worded carried
+worded = (refl, (refl, (refl, (refl, (refl, (refl, (refl, (refl, (refl, (refl, (refl, (refl, (refl, (refl, (refl, (refl, (refl, (refl, (refl, tt)))))))))))))))))))
+
+found_word : (name : List ℕ) (es : List (List ℕ × Symbol)) (x : Symbol) → Worded es → found name es ≡ Some x → word_of x ≡ Some name
 unfolding found
-found_fits name [] a x h = absurd (let z : ◌≡◌ {A = ℕ} 0 1 = cc in omega arith)
-found_fits name (e ∷ es) a x h = go (bytes_eq name e.0) refl h (fits e.1 e.0) refl a (λ q. found_fits name es q x)
+found_word name [] x w h = cc
+found_word name (e ∷ es) x w h = go (bytes_eq name e.0) refl h (found_word name es x w.1)
   where
-    go : (b : Bool) → bytes_eq name e.0 ≡ b → cond b (Some e.1) (found name es) ≡ Some x → (f : Bool) → fits e.1 e.0 ≡ f → cond f (all_fit es) false ≡ true → (all_fit es ≡ true → found name es ≡ Some x → fits x name ≡ true) → fits x name ≡ true
-    go b s p false f q r = absurd (let z : ◌≡◌ {A = ℕ} 0 1 = cc in omega arith)
-    go true s p true f q r =
-        let w : e.1 ≡ x = cc in
-        subst (λ y. fits y name ≡ true) w (subst (λ n. fits e.1 n ≡ true) (sym (same_so name e.0 s)) f)
-    go false s p true f q r = r q p
+    go : (b : Bool) → bytes_eq name e.0 ≡ b → cond b (Some e.1) (found name es) ≡ Some x → (found name es ≡ Some x → word_of x ≡ Some name) → word_of x ≡ Some name
+    go true s p k = let y : e.1 ≡ x = cc in ap word_of (sym y) ∙ w.0 ∙ ap Some (sym (same_so name e.0 s))
+    go false s p k = k p
 
-pub symbol_fits : (name : List ℕ) (x : Symbol) → symbol name ≡ x → fits x name ≡ true
-symbol_fits name x h = subst (λ y. fits y name ≡ true) h (go (found name carried) refl)
+-- a symbol that is carried has one name
+one_name : (name word : List ℕ) (x : Symbol) → found word carried ≡ Some x → symbol name ≡ x → name ≡ word
+one_name name word x h = go (found name carried) refl
   where
-    none : (b : Bool) → one_of name not_carried ≡ b → fits (cond b symbols.NotCarried symbols.Unknown) name ≡ true
-    none true q = q
-    none false q = refl
+    is : word_of x ≡ Some word
+    is = found_word word carried x worded h
 
-    go : (o : Option Symbol) → found name carried ≡ o → fits (other name o) name ≡ true
-    go (Some y) p = found_fits name carried refl y p
-    go None p = none (one_of name not_carried) refl
+    none : (b : Bool) → cond b symbols.NotCarried symbols.Unknown ≡ x → name ≡ word
+    none true q = let z : Some word ≡ None = sym is ∙ ap word_of (sym q) in cc
+    none false q = let z : Some word ≡ None = sym is ∙ ap word_of (sym q) in cc
 
--- Another symbol has another name.
-pub apart : (name word : List ℕ) (x : Symbol) → symbol word ≡ x → (symbol name ≡ x → ⊥) → bytes_eq name word ≡ false
-apart name word x w n = go (bytes_eq name word) refl
+    go : (o : Option Symbol) → found name carried ≡ o → other name o ≡ x → name ≡ word
+    go (Some y) p q = let z : Some name ≡ Some word = sym (found_word name carried y worded p) ∙ ap word_of q ∙ is in cc
+    go None p q = none (one_of name not_carried) q
+
+symbol_found : (word : List ℕ) (x : Symbol) → found word carried ≡ Some x → symbol word ≡ x
+symbol_found word x h = ap (other word) h
+
+-- the derived `==`
+abbrev pub same : Symbol → Symbol → Bool
+same x y = (symbol_eq.ghosts).eq x y
+
+pub same_symbol : (x y : Symbol) → same x y ≡ true → x ≡ y
+same_symbol x y h = search rules
+
+same_itself : (x : Symbol) → same x x ≡ true
+same_itself x = search rules
+
+pub same_other : (x y : Symbol) → (x ≡ y → ⊥) → same x y ≡ false
+same_other x y n = go (same x y) refl
   where
-    go : (b : Bool) → bytes_eq name word ≡ b → b ≡ false
-    go true q = absurd (n (ap symbol (same_so name word q) ∙ w))
+    go : (b : Bool) → same x y ≡ b → b ≡ false
+    go true q = absurd (n (same_symbol x y q))
     go false q = refl
 
-abbrev pub barred : Symbol → Bool
-barred symbols.Spec = false
-barred symbols.Declare = false
-barred symbols.Type = false
-barred symbols.TypeShared = false
-barred (symbols.FunctionType c) = false
-barred symbols.Knows = false
-barred symbols.EverybodyKnows = false
-barred symbols.Block = false
-barred symbols.Comm = false
-barred symbols.Tuple = false
-barred symbols.Crypt = false
-barred symbols.Vanilla = false
-barred symbols.Apply = false
-barred (symbols.Section s) = false
-barred symbols.NotCarried = true
-barred symbols.Unknown = false
-
-all_barred : List (List ℕ) → Bool
-all_barred [] = true
-all_barred (n ∷ ns) = cond (barred (symbol n)) (all_barred ns) false
-
-one_barred : (name : List ℕ) (ns : List (List ℕ)) → all_barred ns ≡ true → one_of name ns ≡ true → barred (symbol name) ≡ true
-unfolding one_of all_barred
-one_barred name [] a h = absurd (let z : ◌≡◌ {A = ℕ} 0 1 = cc in omega arith)
-one_barred name (n ∷ ns) a h = go (bytes_eq name n) refl h (barred (symbol n)) refl a (one_barred name ns)
+-- A name spells a word just if it has the word's symbol.
+pub spelled : (name word : List ℕ) (x y : Symbol) → found word carried ≡ Some x → symbol name ≡ y → bytes_eq name word ≡ same y x
+spelled name word x y h e = go (bytes_eq name word) (same y x) refl refl
   where
-    go : (b : Bool) → bytes_eq name n ≡ b → cond b true (one_of name ns) ≡ true → (f : Bool) → barred (symbol n) ≡ f → cond f (all_barred ns) false ≡ true → (all_barred ns ≡ true → one_of name ns ≡ true → barred (symbol name) ≡ true) → barred (symbol name) ≡ true
-    go b s p false f q r = absurd (let z : ◌≡◌ {A = ℕ} 0 1 = cc in omega arith)
-    go true s p true f q r = subst (λ m. barred (symbol m) ≡ true) (sym (same_so name n s)) f
-    go false s p true f q r = r q p
+    go : (a b : Bool) → bytes_eq name word ≡ a → same y x ≡ b → a ≡ b
+    go true true p q = refl
+    go false false p q = refl
+    go true false p q = sym (sym q ∙ ap (λ z. same z x) (sym e ∙ ap symbol (same_so name word p) ∙ symbol_found word x h) ∙ same_itself x)
+    go false true p q = sym p ∙ (bytes_eq-Decides name word).1 (one_name name word x h (e ∙ same_symbol y x q))
 
-all_are : all_barred not_carried ≡ true
-unfolding one_of found all_barred
-all_are = refl
+-- The words that are not carried.
+Barred : List (List ℕ) → Type 0
+Barred [] = Unit {0}
+Barred (n ∷ ns) = (symbol n ≡ symbols.NotCarried) × Barred ns
 
-pub barred_so : (name : List ℕ) → one_of name not_carried ≡ true → barred (symbol name) ≡ true
-barred_so name h = one_barred name not_carried all_are h
+one_barred : (name : List ℕ) (ns : List (List ℕ)) → Barred ns → one_of name ns ≡ true → symbol name ≡ symbols.NotCarried
+unfolding one_of Barred
+one_barred name [] w h = cc
+one_barred name (n ∷ ns) w h = go (bytes_eq name n) refl h (one_barred name ns w.1)
+  where
+    go : (b : Bool) → bytes_eq name n ≡ b → cond b true (one_of name ns) ≡ true → (one_of name ns ≡ true → symbol name ≡ symbols.NotCarried) → symbol name ≡ symbols.NotCarried
+    go true s p k = ap symbol (same_so name n s) ∙ w.0
+    go false s p k = k p
+
+all_barred : Barred not_carried
+unfolding Barred found one_of
+all_barred = (refl, (refl, (refl, (refl, (refl, (refl, (refl, (refl, (refl, (refl, (refl, (refl, (refl, (refl, (refl, (refl, (refl, (refl, (refl, (refl, (refl, (refl, (refl, (refl, (refl, (refl, (refl, (refl, (refl, (refl, (refl, (refl, (refl, (refl, (refl, (refl, (refl, (refl, tt))))))))))))))))))))))))))))))))))))))
+
+pub barred_so : (name : List ℕ) → one_of name not_carried ≡ true → symbol name ≡ symbols.NotCarried
+barred_so name h = one_barred name not_carried all_barred h
 
 pub carried_so : (name : List ℕ) → (symbol name ≡ symbols.NotCarried → ⊥) → one_of name not_carried ≡ false
 carried_so name n = go (one_of name not_carried) refl
   where
-    is_barred : (x : Symbol) → barred x ≡ true → x ≡ symbols.NotCarried
-    is_barred symbols.NotCarried q = refl
-    is_barred symbols.Spec q = absurd (let z : ◌≡◌ {A = ℕ} 0 1 = cc in omega arith)
-    is_barred symbols.Declare q = absurd (let z : ◌≡◌ {A = ℕ} 0 1 = cc in omega arith)
-    is_barred symbols.Type q = absurd (let z : ◌≡◌ {A = ℕ} 0 1 = cc in omega arith)
-    is_barred symbols.TypeShared q = absurd (let z : ◌≡◌ {A = ℕ} 0 1 = cc in omega arith)
-    is_barred (symbols.FunctionType c) q = absurd (let z : ◌≡◌ {A = ℕ} 0 1 = cc in omega arith)
-    is_barred symbols.Knows q = absurd (let z : ◌≡◌ {A = ℕ} 0 1 = cc in omega arith)
-    is_barred symbols.EverybodyKnows q = absurd (let z : ◌≡◌ {A = ℕ} 0 1 = cc in omega arith)
-    is_barred symbols.Block q = absurd (let z : ◌≡◌ {A = ℕ} 0 1 = cc in omega arith)
-    is_barred symbols.Comm q = absurd (let z : ◌≡◌ {A = ℕ} 0 1 = cc in omega arith)
-    is_barred symbols.Tuple q = absurd (let z : ◌≡◌ {A = ℕ} 0 1 = cc in omega arith)
-    is_barred symbols.Crypt q = absurd (let z : ◌≡◌ {A = ℕ} 0 1 = cc in omega arith)
-    is_barred symbols.Vanilla q = absurd (let z : ◌≡◌ {A = ℕ} 0 1 = cc in omega arith)
-    is_barred symbols.Apply q = absurd (let z : ◌≡◌ {A = ℕ} 0 1 = cc in omega arith)
-    is_barred (symbols.Section s) q = absurd (let z : ◌≡◌ {A = ℕ} 0 1 = cc in omega arith)
-    is_barred symbols.Unknown q = absurd (let z : ◌≡◌ {A = ℕ} 0 1 = cc in omega arith)
-
     go : (b : Bool) → one_of name not_carried ≡ b → b ≡ false
-    go true q = absurd (n (is_barred (symbol name) (barred_so name q)))
+    go true q = absurd (n (barred_so name q))
     go false q = refl
 
--- A symbol that is not carried is none of the others.
-pub never : (name : List ℕ) (x : Symbol) → one_of name not_carried ≡ true → barred x ≡ false → symbol name ≡ x → ⊥
-never name x h f e = let a : barred x ≡ true = subst (λ y. barred y ≡ true) e (barred_so name h) in let z : ◌≡◌ {A = Bool} true false = cc in let w : ◌≡◌ {A = ℕ} 0 1 = cc in omega arith
+pub carried_same : (word : List ℕ) (x : Symbol) → found word carried ≡ Some x → same symbols.NotCarried x ≡ false
+carried_same word x h = same_other symbols.NotCarried x (λ e. let z : None ≡ Some word = ap word_of e ∙ found_word word carried x worded h in cc)
+
+pub uncarried_so : (name : List ℕ) → symbol name ≡ symbols.NotCarried → one_of name not_carried ≡ true
+uncarried_so name = go (found name carried) refl
+  where
+    none : (b : Bool) → cond b symbols.NotCarried symbols.Unknown ≡ symbols.NotCarried → b ≡ true
+    none true q = refl
+    none false q = cc
+
+    go : (o : Option Symbol) → found name carried ≡ o → other name o ≡ symbols.NotCarried → one_of name not_carried ≡ true
+    go (Some y) p q = let z : Some name ≡ None = sym (found_word name carried y worded p) ∙ ap word_of q in cc
+    go None p q = none (one_of name not_carried) q
+
+pub section_found : (s : Section) → found (codes (section_word s)) carried ≡ Some (symbols.Section s)
+unfolding found
+section_found sections.Sessions = refl
+section_found sections.Assume = refl
+section_found sections.Claim = refl

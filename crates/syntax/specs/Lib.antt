@@ -4,6 +4,5 @@ pub mod Refusals
 pub mod Seeing
 pub mod Shape
 pub mod Specs
-pub mod Standing
 pub mod Symbols
-pub mod Tables
+pub mod Views

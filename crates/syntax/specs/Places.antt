@@ -1,12 +1,14 @@
 -- The places of terms and labels.
-use Rattle.std.specs.Prelude.{ℕ, List, map, slice_index}
+use Rattle.std.specs.Prelude.{ℕ}
 use Rattle.syntax.specs.declared.spec.Label.{Label}
 use Rattle.syntax.specs.declared.spec.Label.TheVariants.{Number, Name}
-use Rattle.syntax.specs.declared.spec.TermNode.{TermNode}
+use Rattle.syntax.specs.Specs.{Term, name, tuple, crypt, apply}
 
--- The place of the term with this number, and 0 where there is none.
-abbrev pub place_of : List TermNode → ℕ → ℕ
-place_of terms k = slice_index (map (λ (n : TermNode). n.at) terms) k
+abbrev pub term_place : Term → ℕ
+term_place (name at p) = at
+term_place (tuple at ts) = at
+term_place (crypt at t k) = at
+term_place (apply at f ts) = at
 
 abbrev pub label_place : Label → ℕ
 label_place (Number at v) = at

@@ -23,6 +23,11 @@ abbrev pub and_then : {A B : Type 0} → Shaped A → (A → Shaped B) → Shape
 and_then (Ok x) f = f x
 and_then (Err e) f = Err e
 
+-- What is answered at each part, from left to right.
+unfoldable pub each : {A : Type 0} → (Tree → Shaped A) → Trees → Shaped (List A)
+each one none = Ok []
+each one (more t ts) = and_then (one t) (λ x. and_then (each one ts) (λ xs. Ok (x ∷ xs)))
+
 abbrev pub bytes : List ℕ → Part → List ℕ
 bytes text p = take p.len (drop p.at text)
 
@@ -91,8 +96,7 @@ a_name text (integer at n) = Err (misfit text (integer at n))
 a_name text (bracket at s ts) = Err (misfit text (bracket at s ts))
 
 unfoldable pub names : List ℕ → Trees → Shaped (List Name)
-names text none = Ok []
-names text (more t ts) = and_then (a_name text t) (λ n. and_then (names text ts) (λ ns. Ok (n ∷ ns)))
+names text ts = each (a_name text) ts
 
 -- (vanilla)
 abbrev pub vanilla : List ℕ → Tree → Shaped Unit
@@ -175,8 +179,7 @@ declaration text (bracket at s ts) =
     (Err (misfit text (bracket at s ts))))))
 
 unfoldable pub declarations : List ℕ → Trees → Shaped (List Declared)
-declarations text none = Ok []
-declarations text (more t ts) = and_then (declaration text t) (λ d. and_then (declarations text ts) (λ ds. Ok (d ∷ ds)))
+declarations text ts = each (declaration text) ts
 
 -- A label is a name or an integer.
 abbrev pub label : List ℕ → Tree → Shaped Label
@@ -202,8 +205,7 @@ line text (bracket at s ts) =
     (Err (misfit text (bracket at s ts))))
 
 unfoldable pub lines : List ℕ → Trees → Shaped (List Lined)
-lines text none = Ok []
-lines text (more t ts) = and_then (line text t) (λ l. and_then (lines text ts) (λ ls. Ok (l ∷ ls)))
+lines text ts = each (line text) ts
 
 -- (declare DECLARATION ...)
 abbrev pub declare : List ℕ → Tree → Shaped (List Declared)

@@ -3,11 +3,11 @@ ghost use Rattle.std.specs.Prelude.{◌≡◌};
 ghost use Rattle.syntax.specs.Refusals.{shape_refusal};
 ghost use Rattle.syntax.specs.declared.fault.ShapeFault.TheVariants as shape_faults;
 
-use std::alloc::AllocFailed;
-use text::fault::Refusal;
+use std::alloc::{AllocError, AllocFailed};
+use text::refusal::{Cause, Layer, Refusal};
 
 // The tree has no shape of a specification. The place is the node's first byte.
-#[derive(Clone, Copy, Debug)]
+#[derive(Clone, Copy, PartialEq, Eq, Debug)]
 pub enum ShapeFault {
     // a name is too long, or there are too many lines or parts
     Limit { at: usize },
@@ -21,29 +21,38 @@ pub enum ShapeFault {
 }
 
 impl ShapeFault {
-    // Want of memory is no refusal.
+    // Want of memory is no refusal: an `Option`, and no `From`.
     pub fn refusal(&self) -> Option<Refusal>
         ensures { result ≡ shape_refusal self.now }
     {
-        let (number, place) = match *self {
-            ShapeFault::Limit { at } => (1, at),
-            ShapeFault::Misfit { at } => (3, at),
-            ShapeFault::NotCarried { at } => (4, at),
-            ShapeFault::NoName { at } => (5, at),
+        let (cause, place) = match *self {
+            ShapeFault::Limit { at } => (Cause::Limit, at),
+            ShapeFault::Misfit { at } => (Cause::Misfit, at),
+            ShapeFault::NotCarried { at } => (Cause::NotCarried, at),
+            ShapeFault::NoName { at } => (Cause::NoName, at),
             ShapeFault::NoMemory => return None,
         };
         Some(Refusal {
-            number,
-            layer: 2,
+            cause,
+            layer: Layer::Shape,
             place,
         })
     }
 }
 
+// `?` asks for these of each type of error.
 impl<T: Drop> From<AllocFailed<T>> for ShapeFault {
     ghost from_gives = { λ _ r. r ≡ shape_faults.NoMemory };
 
     fn from(_refused: AllocFailed<T>) -> ShapeFault {
+        ShapeFault::NoMemory
+    }
+}
+
+impl From<AllocError> for ShapeFault {
+    ghost from_gives = { λ _ r. r ≡ shape_faults.NoMemory };
+
+    fn from(_error: AllocError) -> ShapeFault {
         ShapeFault::NoMemory
     }
 }

@@ -1,4 +1,4 @@
-// The shape of a specification: from a table of nodes to declarations, lines and terms.
+// The shape of a specification: from a tree to declarations, lines and terms.
 #![tactic(auto)]
 
 pub mod fault;

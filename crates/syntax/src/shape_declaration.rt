@@ -1,84 +1,77 @@
 // The shape of declarations.
-ghost use Rattle.std.specs.Prelude.{[], ◌∷◌};
-ghost use Rattle.text.specs.Trees.{Tree, Trees};
+ghost use Rattle.std.specs.Prelude.{◌≡◌, map};
+ghost use Rattle.text.specs.Nodes.{tree_of, trees_of};
 ghost use Rattle.syntax.specs.Shape as shape;
-ghost use Rattle.syntax.specs.Standing.{Stands, Fill};
 ghost use Rattle.syntax.specs.Seeing as seeing;
+ghost use Rattle.syntax.specs.Views.{declared_of};
 
 use crate::fault::ShapeFault;
-use crate::source::{Bracket, Headed, Item, Parts, Source, short};
-use crate::spec::{Declaration, Name, Spec};
+use crate::source::{Bracket, Headed, Item, Source, short};
+use crate::spec::{Declaration, Name};
 use crate::symbol::{FunctionClass, Symbol};
+use text::node::Node;
 
 impl Source<'_> {
-    pub(crate) fn declarations(self, spec: &mut Spec, parts: Parts) -> Result<(), ShapeFault>
-        ensures { (ts : Trees) → Fill self.entry.nodes.now.rows.items parts ts → seeing.Answers (shape.declarations self.entry.text.now ts) (λ ds. seeing.Declares spec.old ds spec.new) result }
+    pub(crate) fn declarations(self, parts: &[Node]) -> Result<Vec<Declaration>, ShapeFault>
+        ensures { seeing.Gives (λ ds. map declared_of ds.items) (shape.declarations self.entry.text.now (trees_of parts.now)) result }
     {
-        let mut part = parts.first;
-        while part < parts.end {
-            self.declaration(spec, part)?;
-            part = self.after(part);
-        }
-        Ok(())
+        parts
+            .iter()
+            .map(|part| self.declaration(part))
+            .try_collect(self.heap)
     }
 
-    fn declaration(self, spec: &mut Spec, node: usize) -> Result<(), ShapeFault>
-        ensures { (t : Tree) → Stands self.entry.nodes.now.rows.items node t → seeing.Answers (shape.declaration self.entry.text.now t) (λ d. seeing.Declares spec.old (d ∷ []) spec.new) result }
+    fn declaration(self, node: &Node) -> Result<Declaration, ShapeFault>
+        ensures { seeing.Gives declared_of (shape.declaration self.entry.text.now (tree_of node.now)) result }
     {
-        match self.item(node)? {
-            Item::Name(name) => Err(ShapeFault::Misfit { at: name.at }),
-            Item::Number { at, value: _ } => Err(ShapeFault::Misfit { at }),
-            Item::Bracket(bracket) => match bracket.symbol {
-                Symbol::Type => self.value(spec, bracket),
-                Symbol::TypeShared => self.shared(spec, bracket),
-                Symbol::Knows => self.knows(spec, bracket),
-                Symbol::EverybodyKnows => self.everybody_knows(spec, bracket),
-                _ => Err(ShapeFault::Misfit { at: bracket.at }),
-            },
+        let Bracket { at, symbol, parts } = self.bracket(node)?;
+        match symbol {
+            Symbol::Type => self.value(at, parts),
+            Symbol::TypeShared => self.shared(at, parts),
+            Symbol::Knows => self.knows(at, parts),
+            Symbol::EverybodyKnows => self.everybody_knows(at, parts),
+            _ => Err(ShapeFault::Misfit { at }),
         }
     }
 
     // A name and its type.
-    fn value(self, spec: &mut Spec, bracket: Bracket) -> Result<(), ShapeFault>
-        ensures { (ts : Trees) → Fill self.entry.nodes.now.rows.items bracket.parts ts → seeing.Answers (shape.type_of self.entry.text.now bracket.at ts) (λ d. seeing.Declares spec.old (d ∷ []) spec.new) result }
+    fn value(self, at: usize, parts: &[Node]) -> Result<Declaration, ShapeFault>
+        ensures { seeing.Gives declared_of (shape.type_of self.entry.text.now at (trees_of parts.now)) result }
     {
-        self.counted(bracket, 2)?;
-        let name = self.name(bracket.parts.first)?;
-        let kind = self.name(self.after(bracket.parts.first))?;
-        spec.declarations.push(Declaration::Value {
-            name,
-            kind,
+        let [name, kind] = parts else {
+            return Err(ShapeFault::Misfit { at });
+        };
+        Ok(Declaration::Value {
+            name: self.name(name)?,
+            kind: self.name(kind)?,
             shared: false,
-        })?;
-        Ok(())
+        })
     }
 
     // A shared name, with a type or a function type.
-    fn shared(self, spec: &mut Spec, bracket: Bracket) -> Result<(), ShapeFault>
-        ensures { (ts : Trees) → Fill self.entry.nodes.now.rows.items bracket.parts ts → seeing.Answers (shape.shared_of self.entry.text.now bracket.at ts) (λ d. seeing.Declares spec.old (d ∷ []) spec.new) result }
+    fn shared(self, at: usize, parts: &[Node]) -> Result<Declaration, ShapeFault>
+        ensures { seeing.Gives declared_of (shape.shared_of self.entry.text.now at (trees_of parts.now)) result }
     {
-        self.counted(bracket, 2)?;
-        let name = self.name(bracket.parts.first)?;
-        self.shared_type(spec, name, self.after(bracket.parts.first))
+        let [name, kind] = parts else {
+            return Err(ShapeFault::Misfit { at });
+        };
+        let name = self.name(name)?;
+        self.shared_type(name, kind)
     }
 
-    fn shared_type(self, spec: &mut Spec, name: Name, node: usize) -> Result<(), ShapeFault>
-        ensures { (t : Tree) → Stands self.entry.nodes.now.rows.items node t → seeing.Answers (shape.shared_as self.entry.text.now name t) (λ d. seeing.Declares spec.old (d ∷ []) spec.new) result }
+    fn shared_type(self, name: Name, node: &Node) -> Result<Declaration, ShapeFault>
+        ensures { seeing.Gives declared_of (shape.shared_as self.entry.text.now name (tree_of node.now)) result }
     {
         match self.item(node)? {
-            Item::Name(kind) => {
-                let kind = short(kind)?;
-                spec.declarations.push(Declaration::Value {
-                    name,
-                    kind,
-                    shared: true,
-                })?;
-                Ok(())
-            }
-            Item::Number { at, value: _ } => Err(ShapeFault::Misfit { at }),
-            Item::Bracket(bracket) => match bracket.symbol {
-                Symbol::FunctionType(class) => self.function(spec, name, class, bracket),
-                _ => Err(ShapeFault::Misfit { at: bracket.at }),
+            Item::Name(kind) => Ok(Declaration::Value {
+                name,
+                kind: short(kind)?,
+                shared: true,
+            }),
+            Item::Number { at, .. } => Err(ShapeFault::Misfit { at }),
+            Item::Bracket(Bracket { at, symbol, parts }) => match symbol {
+                Symbol::FunctionType(class) => self.function(name, class, at, parts),
+                _ => Err(ShapeFault::Misfit { at }),
             },
         }
     }
@@ -86,59 +79,53 @@ impl Source<'_> {
     // A function type: the result, then the parameters.
     fn function(
         self,
-        spec: &mut Spec,
         name: Name,
         class: FunctionClass,
-        bracket: Bracket,
-    ) -> Result<(), ShapeFault>
-        ensures { (ts : Trees) → Fill self.entry.nodes.now.rows.items bracket.parts ts → seeing.Answers (shape.function_of self.entry.text.now name class.secret class.one_way bracket.at ts) (λ d. seeing.Declares spec.old (d ∷ []) spec.new) result }
+        at: usize,
+        parts: &[Node],
+    ) -> Result<Declaration, ShapeFault>
+        ensures { seeing.Gives declared_of (shape.function_of self.entry.text.now name class.secret class.one_way at (trees_of parts.now)) result }
     {
-        let headed = self.headed(bracket)?;
-        let first = spec.parameters.len();
-        self.names(&mut spec.parameters, headed.rest)?;
-        spec.declarations.push(Declaration::Function {
+        let Headed { name: result, rest } = self.headed(at, parts)?;
+        let parameters = self.names(rest)?;
+        Ok(Declaration::Function {
             name,
             class,
-            result: headed.name,
-            first,
-            end: spec.parameters.len(),
-        })?;
-        Ok(())
+            result,
+            parameters,
+        })
     }
 
-    // Names join the others.
-    fn names(self, names: &mut Vec<Name>, parts: Parts) -> Result<(), ShapeFault>
-        ensures { (ts : Trees) → Fill self.entry.nodes.now.rows.items parts ts → seeing.Answers (shape.names self.entry.text.now ts) (λ ns. seeing.Grown names.old.items ns names.new.items) result }
+    fn names(self, parts: &[Node]) -> Result<Vec<Name>, ShapeFault>
+        ensures { seeing.Gives (λ ns. ns.items) (shape.names self.entry.text.now (trees_of parts.now)) result }
     {
-        let mut part = parts.first;
-        while part < parts.end {
-            let name = self.name(part)?;
-            names.push(name)?;
-            part = self.after(part);
-        }
-        Ok(())
+        parts
+            .iter()
+            .map(|part| self.name(part))
+            .try_collect(self.heap)
     }
 
     // Starting knowledge of one party.
-    fn knows(self, spec: &mut Spec, bracket: Bracket) -> Result<(), ShapeFault>
-        ensures { (ts : Trees) → Fill self.entry.nodes.now.rows.items bracket.parts ts → seeing.Answers (shape.knows_of self.entry.text.now bracket.at ts) (λ d. seeing.Declares spec.old (d ∷ []) spec.new) result }
+    fn knows(self, at: usize, parts: &[Node]) -> Result<Declaration, ShapeFault>
+        ensures { seeing.Gives declared_of (shape.knows_of self.entry.text.now at (trees_of parts.now)) result }
     {
-        self.counted(bracket, 2)?;
-        let knower = self.name(bracket.parts.first)?;
-        let term = spec.terms.len();
-        self.term(&mut spec.terms, self.after(bracket.parts.first))?;
-        spec.declarations.push(Declaration::Knows { knower, term })?;
-        Ok(())
+        let [knower, term] = parts else {
+            return Err(ShapeFault::Misfit { at });
+        };
+        Ok(Declaration::Knows {
+            knower: self.name(knower)?,
+            term: self.term(term)?,
+        })
     }
 
-    fn everybody_knows(self, spec: &mut Spec, bracket: Bracket) -> Result<(), ShapeFault>
-        ensures { (ts : Trees) → Fill self.entry.nodes.now.rows.items bracket.parts ts → seeing.Answers (shape.everybody_of self.entry.text.now bracket.at ts) (λ d. seeing.Declares spec.old (d ∷ []) spec.new) result }
+    fn everybody_knows(self, at: usize, parts: &[Node]) -> Result<Declaration, ShapeFault>
+        ensures { seeing.Gives declared_of (shape.everybody_of self.entry.text.now at (trees_of parts.now)) result }
     {
-        self.counted(bracket, 1)?;
-        let term = spec.terms.len();
-        self.term(&mut spec.terms, bracket.parts.first)?;
-        spec.declarations
-            .push(Declaration::EverybodyKnows { term })?;
-        Ok(())
+        let [term] = parts else {
+            return Err(ShapeFault::Misfit { at });
+        };
+        Ok(Declaration::EverybodyKnows {
+            term: self.term(term)?,
+        })
     }
 }

@@ -1,108 +1,91 @@
 // The shape of a term.
 ghost use Rattle.std.specs.Prelude.{◌≡◌};
-ghost use Rattle.text.specs.Trees.{Tree, Trees};
+ghost use Rattle.text.specs.Nodes.{tree_of, trees_of};
 ghost use Rattle.syntax.specs.Shape as shape;
-ghost use Rattle.syntax.specs.Specs as specs;
-ghost use Rattle.syntax.specs.Standing.{Stands, Fill};
 ghost use Rattle.syntax.specs.Seeing as seeing;
+ghost use Rattle.syntax.specs.Views.{term_of, terms_of};
 
 use crate::fault::ShapeFault;
-use crate::source::{Bracket, Headed, Item, MOST_PARTS, Parts, Source, short};
-use crate::spec::{Form, TermNode};
+use crate::source::{Bracket, Headed, Item, MOST_PARTS, Source, short};
+use crate::spec::Term;
 use crate::symbol::Symbol;
+use text::node::Node;
 
 impl Source<'_> {
-    // A term joins the others, a node before its parts.
-    #[cycle(application_ciphertext_term_terms_tuple)]
-    pub(crate) fn term(self, terms: &mut Vec<TermNode>, node: usize) -> Result<(), ShapeFault>
-        ensures { (t : Tree) → Stands self.entry.nodes.now.rows.items node t → seeing.Answers (shape.term self.entry.text.now t) (λ u. seeing.Grown terms.old.items (specs.nodes u) terms.new.items) result }
+    #[cycle(term)]
+    pub(crate) fn term(self, node: &Node) -> Result<Term, ShapeFault>
+        ensures { seeing.Gives term_of (shape.term self.entry.text.now (tree_of node.now)) result }
     {
         match self.item(node)? {
-            Item::Name(name) => {
-                let name = short(name)?;
-                terms.push(TermNode {
-                    at: name.at,
-                    form: Form::Name(name.part),
-                })?;
-                Ok(())
-            }
-            Item::Number { at, value: _ } => Err(ShapeFault::Misfit { at }),
-            Item::Bracket(bracket) => match bracket.symbol {
-                Symbol::Tuple => self.tuple(terms, bracket),
-                Symbol::Crypt => self.ciphertext(terms, bracket),
-                Symbol::Apply => self.application(terms, bracket),
-                _ => Err(ShapeFault::Misfit { at: bracket.at }),
+            Item::Name(name) => Ok(Term::Name(short(name)?)),
+            Item::Number { at, .. } => Err(ShapeFault::Misfit { at }),
+            Item::Bracket(Bracket { at, symbol, parts }) => match symbol {
+                Symbol::Tuple => self.tuple(at, parts),
+                Symbol::Crypt => self.ciphertext(at, parts),
+                Symbol::Apply => self.application(at, parts),
+                _ => Err(ShapeFault::Misfit { at }),
             },
         }
     }
 
-    #[cycle(application_ciphertext_term_terms_tuple)]
-    fn terms(self, terms: &mut Vec<TermNode>, parts: Parts) -> Result<(), ShapeFault>
-        ensures { (ts : Trees) → Fill self.entry.nodes.now.rows.items parts ts → seeing.Answers (shape.terms self.entry.text.now ts) (λ us. seeing.Grown terms.old.items (specs.nodes_all us) terms.new.items) result }
+    // By a loop: a closure that calls back into this cycle would need a contract, which cannot name the cycle's measure.
+    #[cycle(term)]
+    fn terms(self, parts: &[Node]) -> Result<Vec<Term>, ShapeFault>
+        ensures { seeing.Gives (λ ts. terms_of ts.items) (shape.terms self.entry.text.now (trees_of parts.now)) result }
     {
-        let mut part = parts.first;
-        while part < parts.end {
-            self.term(terms, part)?;
-            part = self.after(part);
+        let mut terms = Vec::new(self.heap);
+        for part in parts {
+            terms.push(self.term(part)?)?;
+        }
+        Ok(terms)
+    }
+
+    #[cycle(term)]
+    fn tuple(self, at: usize, parts: &[Node]) -> Result<Term, ShapeFault>
+        ensures { seeing.Gives term_of (seeing.tuple_term self.entry.text.now at (trees_of parts.now)) result }
+    {
+        if parts.len() > MOST_PARTS {
+            return Err(ShapeFault::Limit { at });
+        }
+        let parts = self.terms(parts)?;
+        Ok(Term::Tuple { at, parts })
+    }
+
+    // A text and a key, and the mark behind them.
+    #[cycle(term)]
+    fn ciphertext(self, at: usize, parts: &[Node]) -> Result<Term, ShapeFault>
+        ensures { seeing.Gives term_of (shape.crypt_term self.entry.text.now at (trees_of parts.now)) result }
+    {
+        let [text, key, mark] = parts else {
+            return Err(ShapeFault::Misfit { at });
+        };
+        let text = Box::new(self.heap, self.term(text)?)?;
+        let key = Box::new(self.heap, self.term(key)?)?;
+        self.vanilla(mark)?;
+        Ok(Term::Crypt { at, text, key })
+    }
+
+    fn vanilla(self, node: &Node) -> Result<(), ShapeFault>
+        ensures { result ≡ shape.vanilla self.entry.text.now (tree_of node.now) }
+    {
+        let bracket = self.form(node, Symbol::Vanilla)?;
+        if !bracket.parts.is_empty() {
+            return Err(ShapeFault::Misfit { at: bracket.at });
         }
         Ok(())
     }
 
-    #[cycle(application_ciphertext_term_terms_tuple)]
-    fn tuple(self, terms: &mut Vec<TermNode>, bracket: Bracket) -> Result<(), ShapeFault>
-        ensures { (ts : Trees) → Fill self.entry.nodes.now.rows.items bracket.parts ts → seeing.Answers (seeing.tuple_term self.entry.text.now bracket.at ts) (λ u. seeing.Grown terms.old.items (specs.nodes u) terms.new.items) result }
-    {
-        let count = self.count(bracket.parts);
-        if count > MOST_PARTS {
-            return Err(ShapeFault::Limit { at: bracket.at });
-        }
-        terms.push(TermNode {
-            at: bracket.at,
-            form: Form::Tuple { parts: count as u8 },
-        })?;
-        self.terms(terms, bracket.parts)
-    }
-
-    // A text and a key, and the mark behind them.
-    #[cycle(application_ciphertext_term_terms_tuple)]
-    fn ciphertext(self, terms: &mut Vec<TermNode>, bracket: Bracket) -> Result<(), ShapeFault>
-        ensures { (ts : Trees) → Fill self.entry.nodes.now.rows.items bracket.parts ts → seeing.Answers (shape.crypt_term self.entry.text.now bracket.at ts) (λ u. seeing.Grown terms.old.items (specs.nodes u) terms.new.items) result }
-    {
-        self.counted(bracket, 3)?;
-        terms.push(TermNode {
-            at: bracket.at,
-            form: Form::Crypt,
-        })?;
-        let text = bracket.parts.first;
-        let key = self.after(text);
-        self.term(terms, text)?;
-        self.term(terms, key)?;
-        self.vanilla(self.after(key))
-    }
-
-    fn vanilla(self, node: usize) -> Result<(), ShapeFault>
-        ensures { (t : Tree) → Stands self.entry.nodes.now.rows.items node t → result ≡ shape.vanilla self.entry.text.now t }
-    {
-        let bracket = self.bracket(node)?;
-        let Symbol::Vanilla = bracket.symbol else {
-            return Err(ShapeFault::Misfit { at: bracket.at });
-        };
-        self.counted(bracket, 0)
-    }
-
     // A function's name and the arguments.
-    #[cycle(application_ciphertext_term_terms_tuple)]
-    fn application(self, terms: &mut Vec<TermNode>, bracket: Bracket) -> Result<(), ShapeFault>
-        ensures { (ts : Trees) → Fill self.entry.nodes.now.rows.items bracket.parts ts → seeing.Answers (shape.apply_term self.entry.text.now bracket.at ts) (λ u. seeing.Grown terms.old.items (specs.nodes u) terms.new.items) result }
+    #[cycle(term)]
+    fn application(self, at: usize, parts: &[Node]) -> Result<Term, ShapeFault>
+        ensures { seeing.Gives term_of (shape.apply_term self.entry.text.now at (trees_of parts.now)) result }
     {
-        let Headed { name, rest, count } = self.headed(bracket)?;
-        terms.push(TermNode {
-            at: bracket.at,
-            form: Form::Apply {
-                function: name,
-                parts: count,
-            },
-        })?;
-        self.terms(terms, rest)
+        let Headed { name, rest } = self.headed(at, parts)?;
+        let arguments = self.terms(rest)?;
+        Ok(Term::Apply {
+            at,
+            function: name,
+            arguments,
+        })
     }
 }

@@ -1,17 +1,15 @@
-// A node table with the text that it was read from, looked at node by node.
-ghost use Rattle.std.specs.Prelude.{◌≡◌, ◌+◌, ◌<◌, ◌≤◌, IfOk, if◌then◌else◌, Ok, Err, vec_len, nat_eq};
-ghost use Rattle.text.specs.Trees.{Tree, Trees, size};
+// The text that a tree was read from, by which the tree's nodes are looked at.
+ghost use Rattle.std.specs.Prelude.{◌≡◌};
+ghost use Rattle.text.specs.Nodes.{tree_of, trees_of};
 ghost use Rattle.syntax.specs.Shape as shape;
-ghost use Rattle.syntax.specs.Standing.{Stands, Fill};
 ghost use Rattle.syntax.specs.Seeing as seeing;
-ghost use Rattle.syntax.specs.declared.fault.ShapeFault.TheVariants as faults;
 
 use crate::fault::ShapeFault;
 use crate::name::is_name;
 use crate::spec::Name;
 use crate::symbol::{Symbol, symbol_of};
-use text::node::NodeKind;
-use text::nodes::Nodes;
+use std::alloc::Global;
+use text::node::Node;
 
 // a name has at most so many bytes
 const LONGEST_NAME: usize = 31;
@@ -21,161 +19,110 @@ pub(crate) const MOST_PARTS: usize = 8;
 
 #[derive(Clone, Copy)]
 pub struct Source<'a> {
+    pub heap: Global,
     pub text: &'a [u8],
-    pub nodes: &'a Nodes,
 }
 
-// The nodes that stand in a bracket: the row of the first, and the row after the last part of the last.
+// A bracket with a symbol that is carried, and the nodes in it.
 #[derive(Clone, Copy)]
-pub struct Parts {
-    pub first: usize,
-    pub end: usize,
-}
-
-#[derive(Clone, Copy)]
-pub struct Bracket {
+pub struct Bracket<'a> {
     pub at: usize,
     pub symbol: Symbol,
-    pub parts: Parts,
-}
-
-// A name and the nodes behind it, with their count.
-#[derive(Clone, Copy)]
-pub struct Headed {
-    pub name: Name,
-    pub rest: Parts,
-    pub count: u8,
+    pub parts: &'a [Node],
 }
 
 // What a node shows of itself.
 #[derive(Clone, Copy)]
-pub enum Item {
+pub enum Item<'a> {
     Name(Name),
     Number { at: usize, value: u32 },
-    Bracket(Bracket),
+    Bracket(Bracket<'a>),
+}
+
+// A name, and the nodes behind it.
+#[derive(Clone, Copy)]
+pub struct Headed<'a> {
+    pub name: Name,
+    pub rest: &'a [Node],
 }
 
 impl Source<'_> {
     // A quoted text must be a name, and a symbol one that is carried, wherever they stand.
-    pub(crate) fn item(self, node: usize) -> Result<Item, ShapeFault>
-        ensures behind { IfOk result (λ i. seeing.Behind (vec_len self.entry.nodes.now.rows) node i) }
-        ensures seen { (t : Tree) → Stands self.entry.nodes.now.rows.items node t → result ≡ seeing.item self.entry.text.now node t }
+    pub(crate) fn item<'b>(self, node: &'b Node) -> Result<Item<'b>, ShapeFault>
+        ensures { seeing.Shows self.entry.text.now (tree_of node.now) result }
     {
-        if node >= self.nodes.rows.len() {
-            return Err(ShapeFault::Misfit { at: 0 });
-        }
-        let row = self.nodes.rows[node];
-        let at = row.at;
-        match row.kind {
-            NodeKind::Quoted(part) => {
+        match *node {
+            Node::Quoted { at, inside: part } => {
                 if !is_name(part.of(self.text)) {
                     return Err(ShapeFault::NoName { at });
                 }
                 Ok(Item::Name(Name { at, part }))
             }
-            NodeKind::Integer(value) => Ok(Item::Number { at, value }),
-            NodeKind::Bracket(part) => match symbol_of(part.of(self.text)) {
+            Node::Integer { at, value } => Ok(Item::Number { at, value }),
+            Node::Bracket {
+                at,
+                symbol,
+                ref parts,
+            } => match symbol_of(symbol.of(self.text)) {
                 Symbol::NotCarried => Err(ShapeFault::NotCarried { at }),
-                symbol => {
-                    let parts = Parts {
-                        first: node + 1,
-                        end: row.end,
-                    };
-                    Ok(Item::Bracket(Bracket { at, symbol, parts }))
-                }
+                symbol => Ok(Item::Bracket(Bracket { at, symbol, parts })),
             },
         }
     }
 
     // A name of at most 31 bytes.
-    pub(crate) fn name(self, node: usize) -> Result<Name, ShapeFault>
-        ensures { (t : Tree) → Stands self.entry.nodes.now.rows.items node t → result ≡ shape.a_name self.entry.text.now t }
+    pub(crate) fn name(self, node: &Node) -> Result<Name, ShapeFault>
+        ensures { result ≡ shape.a_name self.entry.text.now (tree_of node.now) }
     {
         match self.item(node)? {
             Item::Name(name) => short(name),
-            Item::Number { at, value: _ } => Err(ShapeFault::Misfit { at }),
-            Item::Bracket(bracket) => Err(ShapeFault::Misfit { at: bracket.at }),
+            other => Err(ShapeFault::Misfit { at: other.place() }),
         }
     }
 
     // A bracket with a symbol that is carried.
-    pub(crate) fn bracket(self, node: usize) -> Result<Bracket, ShapeFault>
-        ensures { (t : Tree) → Stands self.entry.nodes.now.rows.items node t → seeing.Opened self.entry.text.now self.entry.nodes.now.rows.items t result }
+    pub(crate) fn bracket<'b>(self, node: &'b Node) -> Result<Bracket<'b>, ShapeFault>
+        ensures { seeing.Opens self.entry.text.now (tree_of node.now) result }
     {
         match self.item(node)? {
-            Item::Name(name) => Err(ShapeFault::Misfit { at: name.at }),
-            Item::Number { at, value: _ } => Err(ShapeFault::Misfit { at }),
             Item::Bracket(bracket) => Ok(bracket),
+            other => Err(ShapeFault::Misfit { at: other.place() }),
         }
     }
 
-    // The row after the last part of a node.
-    pub(crate) fn after(self, node: usize) -> usize
-        ensures onward { (node ≤ result) × (node < 18446744073709551615 → node < result) }
-        ensures stands { (t : Tree) → Stands self.entry.nodes.now.rows.items node t → result ≡ node + size t }
+    // A bracket with this symbol.
+    pub(crate) fn form<'b>(self, node: &'b Node, wanted: Symbol) -> Result<Bracket<'b>, ShapeFault>
+        ensures { seeing.Formed self.entry.text.now wanted (tree_of node.now) result }
     {
-        if node >= self.nodes.rows.len() {
-            return node.saturating_add(1);
-        }
-        self.nodes.rows[node].end
-    }
-
-    // How many parts a bracket has.
-    pub(crate) fn count(self, parts: Parts) -> usize
-        ensures { (ts : Trees) → Fill self.entry.nodes.now.rows.items parts ts → result ≡ shape.parts_count ts }
-    {
-        let mut count = 0;
-        let mut part = parts.first;
-        while part < parts.end {
-            count += 1;
-            part = self.after(part);
-        }
-        count
-    }
-
-    // A bracket must have so many parts.
-    pub(crate) fn counted(self, bracket: Bracket, count: usize) -> Result<(), ShapeFault>
-        ensures { (ts : Trees) → Fill self.entry.nodes.now.rows.items bracket.parts ts → result ≡ (if nat_eq (shape.parts_count ts) count then Ok tt else Err (faults.Misfit bracket.at)) }
-    {
-        if self.count(bracket.parts) != count {
+        let bracket = self.bracket(node)?;
+        if bracket.symbol != wanted {
             return Err(ShapeFault::Misfit { at: bracket.at });
         }
-        Ok(())
+        Ok(bracket)
     }
 
     // A name, and up to 8 nodes behind it.
-    pub(crate) fn headed(self, bracket: Bracket) -> Result<Headed, ShapeFault>
-        ensures onward { IfOk result (λ h. bracket.parts.first ≤ h.rest.first) }
-        ensures headed { (ts : Trees) → Fill self.entry.nodes.now.rows.items bracket.parts ts → seeing.HeadedBy self.entry.text.now self.entry.nodes.now.rows.items bracket.at ts result }
+    pub(crate) fn headed<'b>(self, at: usize, parts: &'b [Node]) -> Result<Headed<'b>, ShapeFault>
+        ensures { seeing.viewed seeing.headed_by result ≡ seeing.headed self.entry.text.now at (trees_of parts.now) }
     {
-        let count = self.count(bracket.parts);
-        if count == 0 {
-            return Err(ShapeFault::Misfit { at: bracket.at });
-        }
-        if count > MOST_PARTS + 1 {
-            return Err(ShapeFault::Limit { at: bracket.at });
-        }
-        let head = bracket.parts.first;
-        let name = self.name(head)?;
-        let rest = Parts {
-            first: self.after(head),
-            end: bracket.parts.end,
+        let [head, rest @ ..] = parts else {
+            return Err(ShapeFault::Misfit { at });
         };
-        Ok(Headed {
-            name,
-            rest,
-            count: (count - 1) as u8,
-        })
+        if rest.len() > MOST_PARTS {
+            return Err(ShapeFault::Limit { at });
+        }
+        let name = self.name(head)?;
+        Ok(Headed { name, rest })
     }
 }
 
-impl Item {
+impl Item<'_> {
     pub(crate) fn place(self) -> usize
-        ensures { result ≡ seeing.item_place self }
+        ensures { result ≡ seeing.item_place self.entry }
     {
         match self {
             Item::Name(name) => name.at,
-            Item::Number { at, value: _ } => at,
+            Item::Number { at, .. } => at,
             Item::Bracket(bracket) => bracket.at,
         }
     }

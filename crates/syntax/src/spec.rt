@@ -1,9 +1,9 @@
 // A specification as it stands in the tree. Names are parts of the text, with their places.
-ghost use Rattle.std.specs.Prelude.{◌≡◌, []};
-ghost use Rattle.syntax.specs.Places.{place_of, label_place};
+ghost use Rattle.std.specs.Prelude.{◌≡◌};
+ghost use Rattle.syntax.specs.Places.{label_place, term_place};
+ghost use Rattle.syntax.specs.Views.{term_of};
 
 use crate::symbol::FunctionClass;
-use std::alloc::Global;
 use text::part::Part;
 
 // A quoted name: the place of its quote, and the bytes between the quotes.
@@ -13,7 +13,27 @@ pub struct Name {
     pub part: Part,
 }
 
-#[derive(Clone, Copy)]
+// A term, with the place of each bracket.
+#[derive(Drop)]
+pub enum Term {
+    Name(Name),
+    Tuple {
+        at: usize,
+        parts: Vec<Term>,
+    },
+    Crypt {
+        at: usize,
+        text: Box<Term>,
+        key: Box<Term>,
+    },
+    Apply {
+        at: usize,
+        function: Name,
+        arguments: Vec<Term>,
+    },
+}
+
+#[derive(Drop)]
 pub enum Declaration {
     // a name with its type; a shared one is never made
     Value {
@@ -21,21 +41,19 @@ pub enum Declaration {
         kind: Name,
         shared: bool,
     },
-    // a function, with its result and its parameters: the names from `first` to `end` of the specification's parameters
     Function {
         name: Name,
         class: FunctionClass,
         result: Name,
-        first: usize,
-        end: usize,
+        parameters: Vec<Name>,
     },
-    // starting knowledge of one party; a term is the number of its node
+    // starting knowledge of one party
     Knows {
         knower: Name,
-        term: usize,
+        term: Term,
     },
     EverybodyKnows {
-        term: usize,
+        term: Term,
     },
 }
 
@@ -45,58 +63,28 @@ pub enum Label {
     Name(Name),
 }
 
-#[derive(Clone, Copy)]
+#[derive(Drop)]
 pub struct Line {
     pub label: Label,
     pub sender: Name,
     pub receiver: Name,
-    pub message: usize,
-}
-
-// The terms of a specification stand in preorder: each node is followed by its parts, one after the other.
-#[derive(Clone, Copy)]
-pub enum Form {
-    Name(Part),
-    Tuple { parts: u8 },
-    // a text and a key
-    Crypt,
-    Apply { function: Name, parts: u8 },
-}
-
-#[derive(Clone, Copy)]
-pub struct TermNode {
-    pub at: usize,
-    pub form: Form,
+    pub message: Term,
 }
 
 #[derive(Drop)]
 pub struct Spec {
     pub declarations: Vec<Declaration>,
-    pub parameters: Vec<Name>,
     pub lines: Vec<Line>,
-    pub terms: Vec<TermNode>,
 }
 
-impl Spec {
-    pub fn new(heap: Global) -> Spec
-        ensures { (result.declarations.items ≡ []) × (result.parameters.items ≡ []) × (result.lines.items ≡ []) × (result.terms.items ≡ []) }
+impl Term {
+    pub fn place(&self) -> usize
+        ensures { result ≡ term_place (term_of self.now) }
     {
-        Spec {
-            declarations: Vec::new(heap),
-            parameters: Vec::new(heap),
-            lines: Vec::new(heap),
-            terms: Vec::new(heap),
+        match self {
+            Term::Name(name) => name.at,
+            Term::Tuple { at, .. } | Term::Crypt { at, .. } | Term::Apply { at, .. } => *at,
         }
-    }
-
-    // The place of a term: 0 for a number that is none's.
-    pub fn place(&self, term: usize) -> usize
-        ensures { result ≡ place_of self.now.terms.items term }
-    {
-        if term >= self.terms.len() {
-            return 0;
-        }
-        self.terms[term].at
     }
 }
 
@@ -105,7 +93,7 @@ impl Label {
         ensures { result ≡ label_place self }
     {
         match self {
-            Label::Number { at, value: _ } => at,
+            Label::Number { at, .. } => at,
             Label::Name(name) => name.at,
         }
     }

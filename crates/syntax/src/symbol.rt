@@ -3,7 +3,7 @@ ghost use Rattle.std.specs.Prelude.{◌≡◌};
 ghost use Rattle.syntax.specs.Symbols.{symbol, found, entries, one_of, spellings};
 
 // What a function type says of its functions: who may apply them, and whether an application hides its arguments.
-#[derive(Clone, Copy)]
+#[derive(Clone, Copy, PartialEq, Eq)]
 pub struct FunctionClass {
     pub secret: bool,
     pub one_way: bool,
@@ -17,7 +17,7 @@ pub enum Section {
     Claim,
 }
 
-#[derive(Clone, Copy)]
+#[derive(Clone, Copy, PartialEq, Eq)]
 pub enum Symbol {
     Spec,
     Declare,
@@ -141,21 +141,12 @@ const NOT_CARRIED: [&[u8]; 38] = [
 fn find(name: &[u8], table: &[(&[u8], Symbol)]) -> Option<Symbol>
     ensures { result ≡ found name.now (entries table.now) }
 {
-    for (spelled, symbol) in table {
-        if *spelled == name {
-            return Some(*symbol);
-        }
-    }
-    None
+    let (_, symbol) = table.iter().find(|(spelled, _)| *spelled == name)?;
+    Some(*symbol)
 }
 
 fn is_one_of(name: &[u8], names: &[&[u8]]) -> bool
     ensures { result ≡ one_of name.now (spellings names.now) }
 {
-    for one in names {
-        if *one == name {
-            return true;
-        }
-    }
-    false
+    names.contains(&name)
 }

@@ -1,14 +1,11 @@
 -- Tables that grow.
-use Rattle.std.proofs.Common.{ℕ, ◌<◌, vec_items, refl, ◌∙◌, arith}
+use Rattle.std.proofs.Common.{ℕ, ◌<◌, vec_items, ◌∙◌, arith}
 use Rattle.terms.specs.declared.table.TermTable.{TermTable}
 use Rattle.terms.specs.Shapes.{Shape}
 use Rattle.terms.specs.Interned.{Numbers}
 use Rattle.terms.specs.declared.declarations.Declarations.{Declarations}
 use Rattle.terms.specs.Terms.{size, Grows}
 use Rattle.terms.specs.Reads.{SameNames}
-
-pub grows_same : (t : TermTable) → Grows t t
-grows_same t = record { longer = omega arith; kept = λ j h. refl }
 
 pub grows_on : (t u v : TermTable) → Grows t u → Grows u v → Grows t v
 grows_on t u v a b = record {
@@ -32,7 +29,6 @@ pub same_on : (a b c : Declarations) → SameNames a b → SameNames b c → Sam
 same_on a b c s r = record {
   names = r.names ∙ s.names;
   functions = r.functions ∙ s.functions;
-  parameters = r.parameters ∙ s.parameters;
   starts = r.starts ∙ s.starts;
   rights = r.rights ∙ s.rights;
 }

@@ -1,16 +1,14 @@
 pub mod Numbered
+pub mod Views
 pub mod Tables
 pub mod Interning
 pub mod Growing
 pub mod Naming
-pub mod Nodes
 pub mod Checking
 pub mod Noting
 pub mod Reading
-pub mod ReadingParts
 pub mod Terming
 pub mod Collecting
 pub mod Pushing
 pub mod Declared
-pub mod Kinding
 pub mod Adding

@@ -13,7 +13,7 @@ use Rattle.terms.specs.Interned.{Interned, Numbers}
 use Rattle.terms.specs.Terms.{tree_in, size}
 use Rattle.terms.specs.Numbering.{has, noted}
 use Rattle.terms.specs.Meanings.{Lists}
-use Rattle.terms.specs.Reads.{Refused, Noted}
+use Rattle.terms.specs.Reads.{Gives}
 use Rattle.terms.proofs.Tables.{row_of_tree}
 
 has_there : (u : Tree) (us : List Tree) (k : ℕ) → k < length us → get_or us k (leaf 0) ≡ u → has u us ≡ true
@@ -30,16 +30,12 @@ has_there u (v ∷ us) (suc k) h e = go (eq_tree u v) (has_there u us k (omega a
     go false t = t
 
 has_place : (u : Tree) (us : List Tree) → has u us ≡ true → (k : ℕ) × ((k < length us) × (get_or us k (leaf 0) ≡ u))
-has_place u [] e = absurd (let z : ◌≡◌ {A = ℕ} 0 1 = cc in omega arith)
+has_place u [] e = absurd (cc)
 has_place u (v ∷ us) e = go (eq_tree u v) (eq_tree_is u v) e (λ q. has_place u us q)
   where
     go : (b : Bool) → (T b → u ≡ v) → (b || has u us) ≡ true → (has u us ≡ true → (k : ℕ) × ((k < length us) × (get_or us k (leaf 0) ≡ u))) → (k : ℕ) × ((k < length (v ∷ us)) × (get_or (v ∷ us) k (leaf 0) ≡ u))
     go true is t f = (0, (omega arith, sym (is tt)))
     go false is t f = let p = f t in let h = p.1.0 in (suc p.0, (omega arith, p.1.1))
-
-abbrev pub Noting : TermTable → ℕ → ℕ → Tree → List Tree → Result ℕ TermFault → Type 0
-Noting t most at u us (Ok k) = (tree_in t k ≡ u) × Noted t (noted most at u us)
-Noting t most at u us (Err f) = Refused (noted most at u us) f
 
 module _ (t t' : TermTable) (us : List Tree) (l : Lists t us) (s : Shape) (b : AllBelow (size t) (numbers s)) (most at : ℕ) where
   abbrev the_tree : Tree
@@ -61,7 +57,7 @@ module _ (t t' : TermTable) (us : List Tree) (l : Lists t us) (s : Shape) (b : A
           absurd (f p.0 (omega arith) (row_of_tree (vec_items t.rows) t.ordered t.whole t.distinct s p.0
           (subst (λ n. AllBelow n (numbers s)) t.rows.ok.0 b) (omega arith) (sym (l.each p.0 (omega arith)) ∙ p.1.1)))
 
-  noting_old : (k : ℕ) → Numbers (vec_items t.rows) (vec_items t'.rows) s k → vec_items t'.rows ≡ vec_items t.rows → Noting t' most at the_tree us (Ok k)
+  noting_old : (k : ℕ) → Numbers (vec_items t.rows) (vec_items t'.rows) s k → vec_items t'.rows ≡ vec_items t.rows → Gives t' the_tree (noted most at the_tree us) (Ok k)
   noting_old k i e =
       let x = i.within in
       let y = ap length e in
@@ -78,7 +74,7 @@ module _ (t t' : TermTable) (us : List Tree) (l : Lists t us) (s : Shape) (b : A
       )
 
   noting_new : (k : ℕ) → Numbers (vec_items t.rows) (vec_items t'.rows) s k → length (vec_items t'.rows) ≡ length (vec_items t.rows) + 1 → k ≡ length (vec_items t.rows) → length (vec_items t.rows) < most
-      → ((j : ℕ) → j < length (vec_items t.rows) → shape_of (row_at (vec_items t.rows) j) ≡ s → ⊥) → Noting t' most at the_tree us (Ok k)
+      → ((j : ℕ) → j < length (vec_items t.rows) → shape_of (row_at (vec_items t.rows) j) ≡ s → ⊥) → Gives t' the_tree (noted most at the_tree us) (Ok k)
   noting_new k i len q room f =
       let n = rows_long in
       let m = l.long in
@@ -111,7 +107,7 @@ module _ (t t' : TermTable) (us : List Tree) (l : Lists t us) (s : Shape) (b : A
               let z' = t'.rows.ok.0 in
               ⊎_elim (λ lt. lt) (λ ge. absurd (ne (omega arith))) (cases_lt j (length us))
 
-  pub noting : (r : Result ℕ TermFault) → most ≤ 65536 → Interned (vec_items t.rows) (vec_items t'.rows) s most at r → Noting t' most at the_tree us r
+  pub noting : (r : Result ℕ TermFault) → most ≤ 65536 → Interned (vec_items t.rows) (vec_items t'.rows) s most at r → Gives t' the_tree (noted most at the_tree us) r
   noting (Ok k) small i = ⊎_elim (noting_old k i.0) (λ a. noting_new k i.0 a.0 a.1 a.2 a.3) i.1
   noting (Err (Limit q)) small i =
       let n = rows_long in

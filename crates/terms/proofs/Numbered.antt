@@ -14,14 +14,14 @@ grown_same f g k (formed h ps) b e = ap (node h) (trees_same f g k ps b e)
 
 same_numbers : (f : ℕ → Tree) (i j : ℕ) → ((p q : ℕ) → p < i → q < j → f p ≡ f q → p ≡ q) → (ps qs : List ℕ) → AllBelow i ps → AllBelow j qs → trees f ps ≡ trees f qs → ps ≡ qs
 same_numbers f i j one [] [] a b e = refl
-same_numbers f i j one [] (q ∷ qs) a b e = absurd (let z : ◌≡◌ {A = ℕ} 0 1 = cc in omega arith)
-same_numbers f i j one (p ∷ ps) [] a b e = absurd (let z : ◌≡◌ {A = ℕ} 0 1 = cc in omega arith)
+same_numbers f i j one [] (q ∷ qs) a b e = absurd (cc)
+same_numbers f i j one (p ∷ ps) [] a b e = absurd (cc)
 same_numbers f i j one (p ∷ ps) (q ∷ qs) a b e = ap₂ (λ (x : ℕ) (xs : List ℕ). x ∷ xs) (one p q a.0 b.0 (cc)) (same_numbers f i j one ps qs a.1 b.1 (cc))
 
 pub same_shape : (f : ℕ → Tree) (i j : ℕ) → ((p q : ℕ) → p < i → q < j → f p ≡ f q → p ≡ q) → (s t : Shape) → AllBelow i (numbers s) → AllBelow j (numbers t) → grown f s ≡ grown f t → s ≡ t
 same_shape f i j one (named m) (named n) a b e = cc
-same_shape f i j one (named m) (formed h qs) a b e = absurd (let z : ◌≡◌ {A = ℕ} 0 1 = cc in omega arith)
-same_shape f i j one (formed g ps) (named n) a b e = absurd (let z : ◌≡◌ {A = ℕ} 0 1 = cc in omega arith)
+same_shape f i j one (named m) (formed h qs) a b e = absurd (cc)
+same_shape f i j one (formed g ps) (named n) a b e = absurd (cc)
 same_shape f i j one (formed g ps) (formed h qs) a b e = ap₂ formed (cc) (same_numbers f i j one ps qs a b (cc))
 
 module _ (ss : List Shape) (ordered : (k : ℕ) → k < length ss → AllBelow k (numbers (get_or ss k (named 0)))) where

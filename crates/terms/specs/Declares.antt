@@ -1,12 +1,9 @@
 -- What reading a declaration does.
-use Rattle.std.specs.Prelude.{◌≡◌, ℕ, List, [], ◌∷◌, ◌++◌, drop, Ok, Err, vec_items, Option, Result}
-use Rattle.syntax.specs.declared.spec.Declaration.{Declaration}
+use Rattle.std.specs.Prelude.{◌≡◌, ℕ, List, [], ◌∷◌, ◌++◌, Ok, Err, vec_items, Vec, Option, Result}
+use Rattle.std.specs.declared.alloc.Global.{Global}
 use Rattle.syntax.specs.declared.spec.Name.{Name}
-use Rattle.syntax.specs.declared.spec.Spec.{Spec}
-use Rattle.syntax.specs.declared.spec.TermNode.{TermNode}
 use Rattle.syntax.specs.Specs as syntax
-use Rattle.syntax.specs.Specs.{Term, nodes, Specification, declared_row, declared_nodes, declared_parameters}
-use Rattle.syntax.specs.Tables.{Tabled}
+use Rattle.syntax.specs.Specs.{Term, Specification}
 use Rattle.terms.specs.declared.declarations.Declarations.{Declarations}
 use Rattle.terms.specs.declared.declarations.Declared.{Declared}
 use Rattle.terms.specs.declared.declarations.Function.{Function}
@@ -40,10 +37,10 @@ abbrev pub Scoped : Result Scope DeclarationFault → Declarations → Result (U
 Scoped q d (Ok x) = Stands q d
 Scoped q d (Err f) = Unfit q f
 
--- types, behind those that were there
-abbrev pub Kinds : List ℕ → List Name → List ValueType → List ValueType → Result (Unit {0}) DeclarationFault → Type 0
-Kinds text ns xs xs' (Ok x) = (ks : List ValueType) × ((kinds_of text ns ≡ Ok ks) × (xs' ≡ xs ++ ks))
-Kinds text ns xs xs' (Err f) = Unfit (kinds_of text ns) f
+-- the types of some names
+abbrev pub Kinds : List ℕ → List Name → Result (Vec ValueType Global) DeclarationFault → Type 0
+Kinds text ns (Ok v) = kinds_of text ns ≡ Ok (vec_items v)
+Kinds text ns (Err f) = Unfit (kinds_of text ns) f
 
 -- it is done, or there was no memory
 abbrev pub Done : Type 0 → Result (Unit {0}) DeclarationFault → Type 0
@@ -57,18 +54,17 @@ declared_name n m = record { name = n.part; meaning = m }
 abbrev pub function_name : Name → ℕ → Declared
 function_name n k = declared_name n (meaning.Function k)
 
-abbrev pub function_row : Name → FunctionClass → ValueType → ℕ → ℕ → Function
-function_row n c result first end = record { name = n.part; class = c; result = result; first = first; end = end }
+abbrev pub function_row : Name → FunctionClass → ValueType → Vec ValueType Global → Function
+function_row n c result parameters = record { name = n.part; class = c; result = result; parameters = parameters }
 
 -- a term that is a right
-abbrev pub Righting : List ℕ → Declarations → List TermNode → ℕ → Option ℕ → Type 0
-Righting text d terms i r = (S : Scope) → Means d S → (t : Term) (rest : List TermNode) → drop i terms ≡ nodes t ++ rest → r ≡ right_of text S t
+abbrev pub Righting : List ℕ → Declarations → Term → Option ℕ → Type 0
+Righting text d t r = (S : Scope) → Means d S → r ≡ right_of text S t
 
 -- one name more, and nothing else
 pub record MoreNames (d d' : Declarations) (x : Declared) : Type 0 where
   pub names : vec_items d'.names ≡ vec_items d.names ++ (x ∷ [])
   pub functions : d'.functions ≡ d.functions
-  pub parameters : d'.parameters ≡ d.parameters
   pub starts : d'.starts ≡ d.starts
   pub rights : d'.rights ≡ d.rights
   pub terms : d'.terms ≡ d.terms
@@ -77,25 +73,20 @@ pub record MoreNames (d d' : Declarations) (x : Declared) : Type 0 where
 pub record MoreFunctions (d d' : Declarations) (x : Declared) (f : Function) : Type 0 where
   pub names : vec_items d'.names ≡ vec_items d.names ++ (x ∷ [])
   pub functions : vec_items d'.functions ≡ vec_items d.functions ++ (f ∷ [])
-  pub parameters : d'.parameters ≡ d.parameters
   pub starts : d'.starts ≡ d.starts
   pub rights : d'.rights ≡ d.rights
   pub terms : d'.terms ≡ d.terms
 
 module _ (text : List ℕ) (limits : Limits) where
-  -- starting knowledge, of the term at a place
-  abbrev pub Knowing : Declarations → Declarations → List TermNode → Option ℕ → ℕ → Result (Unit {0}) DeclarationFault → Type 0
-  Knowing d d' terms who i r =
-      (S : Scope) → Means d S → (t : Term) (rest : List TermNode) → Narrow t → drop i terms ≡ nodes t ++ rest → Scoped (known text limits who t S) d' r
+  -- starting knowledge
+  abbrev pub Knowing : Declarations → Declarations → Option ℕ → Term → Result (Unit {0}) DeclarationFault → Type 0
+  Knowing d d' who t r = (S : Scope) → Means d S → Narrow t → Scoped (known text limits who t S) d' r
 
-  -- a declaration, by its row, where its terms and its parameters stand
-  abbrev pub Declaring : Declarations → Declarations → Spec → Declaration → Result (Unit {0}) DeclarationFault → Type 0
-  Declaring d d' spec row r =
-      (S : Scope) → Means d S → (x : syntax.Declared) (m n : ℕ) (rest : List TermNode) (others : List Name) → row ≡ declared_row m n x → NarrowDeclared x
-      → drop m (vec_items spec.terms) ≡ declared_nodes x ++ rest → drop n (vec_items spec.parameters) ≡ declared_parameters x ++ others
-      → Scoped (declare text limits x S) d' r
+  -- a declaration
+  abbrev pub Declaring : Declarations → Declarations → syntax.Declared → Result (Unit {0}) DeclarationFault → Type 0
+  Declaring d d' x r = (S : Scope) → Means d S → NarrowDeclared x → Scoped (declare text limits x S) d' r
 
-  -- all declarations of a specification, from its tables
-  abbrev pub Declares : Spec → Result Declarations DeclarationFault → Type 0
-  Declares spec (Ok d) = (X : Specification) → Tabled X spec → AllNarrow X.declarations → Stands (declared text limits X) d
-  Declares spec (Err f) = (X : Specification) → Tabled X spec → AllNarrow X.declarations → Unfit (declared text limits X) f
+  -- all declarations of a specification
+  abbrev pub Declares : Specification → Result Declarations DeclarationFault → Type 0
+  Declares X (Ok d) = AllNarrow X.declarations → Stands (declared text limits X) d
+  Declares X (Err f) = AllNarrow X.declarations → Unfit (declared text limits X) f

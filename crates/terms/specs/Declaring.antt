@@ -1,5 +1,6 @@
 -- The declarations, one after the other.
 use Rattle.std.specs.Prelude.{ℕ, min, cond, List, [], ◌∷◌, ◌++◌, length, is_some, Some, None, Ok, Err, codes, Option, Result, nat_le}
+use Rattle.std.specs.Str.{bytes_eq}
 use Rattle.model.specs.Trees.{Tree}
 use Rattle.syntax.specs.declared.spec.Name.{Name}
 use Rattle.syntax.specs.Specs as syntax
@@ -15,7 +16,7 @@ use Rattle.terms.specs.declared.fault.TermFault.TheVariants as term_fault
 use Rattle.terms.specs.declared.fault.DeclarationFault.{DeclarationFault}
 use Rattle.terms.specs.declared.fault.DeclarationFault.TheVariants.{Limit, Redeclared, WrongType}
 use Rattle.terms.specs.Refusals.{to_declaration}
-use Rattle.terms.specs.Scope.{Scope, Signature, nothing_declared, bytes, eq_bytes, number_of, meaning_of, function_of}
+use Rattle.terms.specs.Scope.{Scope, Signature, nothing_declared, bytes, number_of, meaning_of, function_of}
 use Rattle.terms.specs.Typing.{and_then, typed}
 use Rattle.terms.specs.Numbering.{tree, read}
 
@@ -32,8 +33,8 @@ in_declaration (Err e) = Err (to_declaration e)
 -- there are two types, by their names
 abbrev pub kind_of : List ℕ → Name → Result ValueType DeclarationFault
 kind_of text n =
-    cond (eq_bytes (bytes text n.part) (codes "number")) (Ok Number)
-    (cond (eq_bytes (bytes text n.part) (codes "principal")) (Ok Principal) (Err (WrongType n.at)))
+    cond (bytes_eq (bytes text n.part) (codes "number")) (Ok Number)
+    (cond (bytes_eq (bytes text n.part) (codes "principal")) (Ok Principal) (Err (WrongType n.at)))
 
 abbrev pub kinds_of : List ℕ → List Name → Result (List ValueType) DeclarationFault
 kinds_of text [] = Ok []

@@ -1,10 +1,8 @@
--- What the numbering of a term answers, where the term stands among the nodes.
-use Rattle.std.specs.Prelude.{◌≡◌, ℕ, ◌+◌, ◌≤◌, true, List, ◌++◌, length, drop, is_some, Some, Ok, Err, Result}
+-- What the numbering of a term answers.
+use Rattle.std.specs.Prelude.{◌≡◌, ℕ, ◌≤◌, true, List, is_some, Some, Ok, Err, Result}
 use Rattle.model.specs.Trees.{Tree}
 use Rattle.program.specs.declared.parts.Parts.{Parts}
-use Rattle.program.specs.Parts.{parts_of}
-use Rattle.syntax.specs.declared.spec.TermNode.{TermNode}
-use Rattle.syntax.specs.Specs.{Term, name, tuple, crypt, apply, Terms, none, more, nodes, nodes_all, count}
+use Rattle.syntax.specs.Specs.{Term, name, tuple, crypt, apply, Terms, none, more, count}
 use Rattle.terms.specs.declared.declarations.Declarations.{Declarations}
 use Rattle.terms.specs.declared.declarations.Declared.{Declared}
 use Rattle.terms.specs.declared.declarations.Meaning.TheVariants as meaning
@@ -21,7 +19,6 @@ use Rattle.terms.specs.Meanings.{Lists}
 pub record SameNames (d d' : Declarations) : Type 0 where
   pub names : d'.names ≡ d.names
   pub functions : d'.functions ≡ d.functions
-  pub parameters : d'.parameters ≡ d.parameters
   pub starts : d'.starts ≡ d.starts
   pub rights : d'.rights ≡ d.rights
 
@@ -38,6 +35,11 @@ pub record Noted (t : TermTable) (q : Result (List Tree) TermFault) : Type 0 whe
   pub is : q ≡ Ok terms
   pub lists : Lists t terms
 
+-- the number of a tree, and the terms that were read
+abbrev pub Gives : TermTable → Tree → Result (List Tree) TermFault → Result ℕ TermFault → Type 0
+Gives t u q (Ok k) = (tree_in t k ≡ u) × Noted t q
+Gives t u q (Err f) = Refused q f
+
 module _ (text : List ℕ) (names : List Declared) where
   -- names are declared, what is applied is a function, and a compound has at most eight parts
   abbrev mutual
@@ -51,30 +53,13 @@ module _ (text : List ℕ) (names : List Declared) where
     SayableAll none = Unit {0}
     SayableAll (more t ts) = Sayable t × SayableAll ts
 
-  -- the number of the term, the place behind it, and its terms in the table
-  pub record Read (t : TermTable) (most : ℕ) (x : Term) (us : List Tree) (i k e : ℕ) : Type 0 where
-    pub stands_for : tree_in t k ≡ tree text names x
-    pub behind : e ≡ i + length (nodes x)
-    pub noted : Noted t (read text names most x us)
+  abbrev pub Reads : TermTable → TermTable → Term → ℕ → Result ℕ TermFault → Type 0
+  Reads t t' x most r = (us : List Tree) → most ≤ 65536 → Lists t us → Sayable x → Gives t' (tree text names x) (read text names most x us) r
 
-  abbrev pub ReadAs : TermTable → ℕ → Term → List Tree → ℕ → Result (ℕ × ℕ) TermFault → Type 0
-  ReadAs t most x us i (Ok p) = Read t most x us i p.0 p.1
-  ReadAs t most x us i (Err f) = Refused (read text names most x us) f
+  -- the numbers of some terms
+  abbrev pub GivesAll : TermTable → ℕ → Terms → List Tree → Result Parts TermFault → Type 0
+  GivesAll t most xs us (Ok ps) = (shapes.trees (tree_in t) ps ≡ trees text names xs) × Noted t (read_all text names most xs us)
+  GivesAll t most xs us (Err f) = Refused (read_all text names most xs us) f
 
-  abbrev pub Reads : TermTable → TermTable → List TermNode → ℕ → ℕ → Result (ℕ × ℕ) TermFault → Type 0
-  Reads t t' terms most i r =
-      (x : Term) (rest : List TermNode) (us : List Tree) → most ≤ 65536 → Lists t us → Sayable x → drop i terms ≡ nodes x ++ rest → ReadAs t' most x us i r
-
-  pub record ReadAll (t : TermTable) (most : ℕ) (xs : Terms) (us : List Tree) (i : ℕ) (ks : List ℕ) (e : ℕ) : Type 0 where
-    pub stand_for : shapes.trees (tree_in t) ks ≡ trees text names xs
-    pub behind : e ≡ i + length (nodes_all xs)
-    pub noted : Noted t (read_all text names most xs us)
-
-  abbrev pub ReadAllAs : TermTable → ℕ → Terms → List Tree → ℕ → Result (Parts × ℕ) TermFault → Type 0
-  ReadAllAs t most xs us i (Ok p) = ReadAll t most xs us i (parts_of p.0) p.1
-  ReadAllAs t most xs us i (Err f) = Refused (read_all text names most xs us) f
-
-  abbrev pub ReadsAll : TermTable → TermTable → List TermNode → ℕ → ℕ → ℕ → Result (Parts × ℕ) TermFault → Type 0
-  ReadsAll t t' terms most i n r =
-      (xs : Terms) (rest : List TermNode) (us : List Tree) → most ≤ 65536 → Lists t us → n ≡ count xs → n ≤ 8 → SayableAll xs → drop i terms ≡ nodes_all xs ++ rest
-      → ReadAllAs t' most xs us i r
+  abbrev pub ReadsAll : TermTable → TermTable → Terms → ℕ → Result Parts TermFault → Type 0
+  ReadsAll t t' xs most r = (us : List Tree) → most ≤ 65536 → Lists t us → count xs ≤ 8 → SayableAll xs → GivesAll t' most xs us r

@@ -1,17 +1,19 @@
--- The number, the layer and the place of each fault of the declarations.
+-- The refusals of the declarations.
 use Rattle.std.specs.Prelude.{None, Option}
-use Rattle.text.specs.declared.fault.Refusal.{Refusal}
-use Rattle.syntax.specs.Refusals.{refuse}
+use Rattle.text.specs.Refusals.{refuse}
+use Rattle.text.specs.declared.refusal.Cause.TheVariants as causes
+use Rattle.text.specs.declared.refusal.Layer.TheVariants.{Declarations}
+use Rattle.text.specs.declared.refusal.Refusal.{Refusal}
 use Rattle.terms.specs.declared.fault.TermFault.{TermFault}
 use Rattle.terms.specs.declared.fault.TermFault.TheVariants as term
 use Rattle.terms.specs.declared.fault.DeclarationFault.{DeclarationFault}
 use Rattle.terms.specs.declared.fault.DeclarationFault.TheVariants as declaration
 
 abbrev pub declaration_refusal : DeclarationFault → Option Refusal
-declaration_refusal (declaration.Limit p) = refuse 1 3 p
-declaration_refusal (declaration.Redeclared p) = refuse 6 3 p
-declaration_refusal (declaration.Undeclared p) = refuse 7 3 p
-declaration_refusal (declaration.WrongType p) = refuse 8 3 p
+declaration_refusal (declaration.Limit p) = refuse causes.Limit Declarations p
+declaration_refusal (declaration.Redeclared p) = refuse causes.Redeclared Declarations p
+declaration_refusal (declaration.Undeclared p) = refuse causes.Undeclared Declarations p
+declaration_refusal (declaration.WrongType p) = refuse causes.WrongType Declarations p
 declaration_refusal declaration.NoMemory = None
 
 -- a term's fault in a declaration

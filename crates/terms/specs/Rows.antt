@@ -1,7 +1,6 @@
 -- What the rows of a table are as shapes, and when a table is sound.
 use Rattle.std.specs.Prelude.{◌≡◌, ℕ, ◌<◌, ◌≤◌, List, map, length, slice_index, slice_index_or}
 use Rattle.model.specs.Trees.{Tree}
-use Rattle.program.specs.Parts.{parts_of}
 use Rattle.program.specs.Actions.{head_of}
 use Rattle.terms.specs.declared.term.TermRow.{TermRow}
 use Rattle.terms.specs.declared.term.TermRow.TheVariants.{Name, Compound}
@@ -9,7 +8,7 @@ use Rattle.terms.specs.Shapes.{Shape, named, formed, grown, tree_of, two_parts, 
 
 abbrev pub shape_of : TermRow → Shape
 shape_of (Name n) = named n
-shape_of (Compound k p) = formed (head_of k) (parts_of p)
+shape_of (Compound k p) = formed (head_of k) p
 
 abbrev pub shapes : List TermRow → List Shape
 shapes rows = map shape_of rows

@@ -1,5 +1,7 @@
 -- What is declared: names with what they stand for, functions, starting knowledge, and the terms read so far.
-use Rattle.std.specs.Prelude.{ℕ, ◌+◌, Bool, true, false, cond, ◌&&◌, List, [], ◌∷◌, take, drop, Some, None, Option, ◌==◌, slice_index_or}
+use Rattle.std.specs.Prelude.{ℕ, Bool, false, List, [], take, drop, Some, None, Option, option_map}
+use Rattle.std.specs.List.{position, find}
+use Rattle.std.specs.Str.{bytes_eq}
 use Rattle.model.specs.Trees.{Tree}
 use Rattle.text.specs.declared.part.Part.{Part}
 use Rattle.syntax.specs.declared.symbol.FunctionClass.{FunctionClass}
@@ -37,27 +39,16 @@ nothing_declared = record { names = []; functions = []; starts = []; rights = []
 abbrev pub bytes : List ℕ → Part → List ℕ
 bytes text p = take p.len (drop p.at text)
 
-abbrev pub eq_bytes : List ℕ → List ℕ → Bool
-eq_bytes [] [] = true
-eq_bytes [] (b ∷ bs) = false
-eq_bytes (a ∷ ra) [] = false
-eq_bytes (a ∷ ra) (b ∷ bs) = a == b && eq_bytes ra bs
+-- is it the declaration of this name?
+abbrev pub declares : List ℕ → Part → Declared → Bool
+declares text p d = bytes_eq (bytes text d.name) (bytes text p)
 
--- the number of a name, counted on from a number
-abbrev pub find_from : List ℕ → ℕ → List Declared → List ℕ → Option ℕ
-find_from text n [] wanted = None
-find_from text n (d ∷ ds) wanted = cond (eq_bytes (bytes text d.name) wanted) (Some n) (find_from text (n + 1) ds wanted)
-
+-- the number of a name, and what it stands for, by its first declaration
 abbrev pub number_of : List ℕ → List Declared → Part → Option ℕ
-number_of text ds p = find_from text 0 ds (bytes text p)
-
--- what the first declaration of a name says
-abbrev pub find_meaning : List ℕ → List Declared → List ℕ → Option Meaning
-find_meaning text [] wanted = None
-find_meaning text (d ∷ ds) wanted = cond (eq_bytes (bytes text d.name) wanted) (Some d.meaning) (find_meaning text ds wanted)
+number_of text ds p = position (declares text p) ds
 
 abbrev pub meaning_of : List ℕ → List Declared → Part → Option Meaning
-meaning_of text ds p = find_meaning text ds (bytes text p)
+meaning_of text ds p = option_map (λ (d : Declared). d.meaning) (find (declares text p) ds)
 
 -- the number of the function that a name stands for
 abbrev pub function_of : Option Meaning → Option ℕ
@@ -65,9 +56,6 @@ function_of None = None
 function_of (Some (Value kind shared)) = None
 function_of (Some (Function f)) = Some f
 
--- a function by its number
+-- what stands where there is no function
 abbrev pub no_function : Signature
 no_function = record { name = record { at = 0; len = 0 }; class = record { secret = false; one_way = false }; result = Number; parameters = [] }
-
-abbrev pub signature : Scope → ℕ → Signature
-signature S f = slice_index_or S.functions f no_function

@@ -1,7 +1,6 @@
 -- What reading a term into the declarations does.
-use Rattle.std.specs.Prelude.{◌≡◌, ℕ, ◌<◌, List, ◌++◌, drop, Ok, Err, Result}
-use Rattle.syntax.specs.declared.spec.TermNode.{TermNode}
-use Rattle.syntax.specs.Specs.{Term, nodes}
+use Rattle.std.specs.Prelude.{◌≡◌, ℕ, ◌<◌, List, Ok, Err, Result}
+use Rattle.syntax.specs.Specs.{Term}
 use Rattle.terms.specs.declared.declarations.Declarations.{Declarations}
 use Rattle.terms.specs.declared.fault.TermFault.{TermFault}
 use Rattle.terms.specs.Terms.{tree_in, size, Grows}
@@ -19,10 +18,7 @@ pub record WithTerm (text : List ℕ) (most : ℕ) (t : Term) (S : Scope) (d : D
   pub means : Means d scope
   pub stands_for : tree_in d.terms k ≡ tree text S.names t
 
--- whatever scope the declarations stood for, and whatever term stood at the place
-abbrev pub Termed : List ℕ → Declarations → Declarations → List TermNode → ℕ → ℕ → Result ℕ TermFault → Type 0
-Termed text d d' terms i most (Ok k) =
-    (k < size d'.terms) × Grows d.terms d'.terms
-    × ((S : Scope) → Means d S → (t : Term) (rest : List TermNode) → Narrow t → drop i terms ≡ nodes t ++ rest → WithTerm text most t S d' k)
-Termed text d d' terms i most (Err f) =
-    (S : Scope) → Means d S → (t : Term) (rest : List TermNode) → Narrow t → drop i terms ≡ nodes t ++ rest → Refused (with_term text most t S) f
+-- whatever scope the declarations stood for
+abbrev pub Termed : List ℕ → Declarations → Declarations → Term → ℕ → Result ℕ TermFault → Type 0
+Termed text d d' t most (Ok k) = (k < size d'.terms) × Grows d.terms d'.terms × ((S : Scope) → Means d S → Narrow t → WithTerm text most t S d' k)
+Termed text d d' t most (Err f) = (S : Scope) → Means d S → Narrow t → Refused (with_term text most t S) f

@@ -31,14 +31,13 @@ pub struct Declared {
     pub meaning: Meaning,
 }
 
-// A function's parameters are those from `first` to `end` of all parameters.
-#[derive(Clone, Copy)]
+// Its name stands here too, since a program's text goes by the number of a function.
+#[derive(Drop)]
 pub struct Function {
     pub name: Part,
     pub class: FunctionClass,
     pub result: ValueType,
-    pub first: usize,
-    pub end: usize,
+    pub parameters: Vec<ValueType>,
 }
 
 // A term that a party starts from: the one of that name, or everybody.
@@ -55,11 +54,12 @@ pub struct Right {
     pub function: u8,
 }
 
+// That they mean a scope is said in clauses, since it is a relation: an invariant in their place would ask more of who makes
+// declarations from these fields.
 #[derive(Drop)]
 pub struct Declarations {
     pub names: Vec<Declared>,
     pub functions: Vec<Function>,
-    pub parameters: Vec<ValueType>,
     pub starts: Vec<Start>,
     pub rights: Vec<Right>,
     pub terms: TermTable,
@@ -69,41 +69,36 @@ pub struct Declarations {
 
 impl Declarations {
     pub fn new(heap: Global) -> Declarations
-        ensures values { (result.names.items ≡ []) × (result.functions.items ≡ []) × (result.parameters.items ≡ []) }
+        ensures values { (result.names.items ≡ []) × (result.functions.items ≡ []) }
         ensures known { (result.starts.items ≡ []) × (result.rights.items ≡ []) × (result.terms.rows.items ≡ []) }
     {
         Declarations {
             names: Vec::new(heap),
             functions: Vec::new(heap),
-            parameters: Vec::new(heap),
             starts: Vec::new(heap),
             rights: Vec::new(heap),
             terms: TermTable::new(heap),
         }
     }
 
-    // The number of a name.
+    // The number of a name: its place in the list. A map would own the names a second time.
     pub fn find(&self, text: &[u8], name: Part) -> Option<u8>
         ensures { result ≡ number_of text.now self.now.names.items name }
     {
         let wanted = name.of(text);
-        for number in 0..self.names.len() {
-            if self.names[number].name.of(text) == wanted {
-                return Some(number as u8);
-            }
-        }
-        None
+        let number = self
+            .names
+            .iter()
+            .position(|declared| declared.name.of(text) == wanted)?;
+        Some(number as u8)
     }
 
     // What a name stands for.
     pub fn meaning(&self, text: &[u8], name: Part) -> Option<Meaning>
         ensures { result ≡ meaning_of text.now self.now.names.items name }
     {
-        let number = self.find(text, name)? as usize;
-        if number >= self.names.len() {
-            return None;
-        }
-        Some(self.names[number].meaning)
+        let number = self.find(text, name)?;
+        Some(self.names.get(number as usize)?.meaning)
     }
 
     // The number of the function that a name stands for.
@@ -112,7 +107,7 @@ impl Declarations {
     {
         match self.meaning(text, name)? {
             Meaning::Function(function) => Some(function),
-            Meaning::Value { kind: _, shared: _ } => None,
+            Meaning::Value { .. } => None,
         }
     }
 
@@ -125,7 +120,12 @@ impl Declarations {
             return Err(TermFault::Undeclared { at });
         };
         match self.meaning(text, name.part) {
-            Some(Meaning::Value { kind, shared: _ }) if kind == ValueType::Principal => Ok(number),
+            Some(
+                Meaning::Value {
+                    kind: ValueType::Principal,
+                    ..
+                },
+            ) => Ok(number),
             _ => Err(TermFault::WrongType { at }),
         }
     }

@@ -1,14 +1,23 @@
 // Reading the declarations, in their order.
-ghost use Rattle.std.specs.Prelude.{◌≡◌, ◌+◌, ◌-◌, ◌<◌, take, drop, vec_len, OnOk};
+ghost use Rattle.std.specs.Prelude.{◌≡◌, ◌+◌, ◌<◌, vec_len, OnOk};
+ghost use Rattle.syntax.specs.Views.{term_of, declared_of, specification_of};
 ghost use Rattle.terms.specs.Declaring.{fresh, kind_of};
 ghost use Rattle.terms.specs.Declares.{Done, MoreNames, MoreFunctions, Kinds, Righting, Knowing, Declaring, Declares, declared_name, function_name, function_row};
 
 use crate::declarations::{Declarations, Declared, Function, Meaning, Right, Start, ValueType};
 use crate::fault::DeclarationFault;
-use crate::limits::{Limits, MOST_NAMES};
+use crate::limits::Limits;
 use std::alloc::Global;
-use syntax::spec::{Declaration, Form, Name, Spec};
+use syntax::spec::{Declaration, Name, Spec, Term};
 use syntax::symbol::FunctionClass;
+
+// What each declaration is read with. Lines are read with the same three, in `roles`: one type for both would be public for that alone.
+#[derive(Clone, Copy)]
+struct Reading<'a> {
+    heap: Global,
+    text: &'a [u8],
+    limits: Limits,
+}
 
 impl Declarations {
     pub fn read(
@@ -17,66 +26,61 @@ impl Declarations {
         spec: &Spec,
         limits: Limits,
     ) -> Result<Declarations, DeclarationFault>
-        ensures { Declares text.now limits spec.now result }
+        ensures { Declares text.now limits (specification_of spec.now) result }
     {
+        let reading = Reading { heap, text, limits };
         let mut declarations = Declarations::new(heap);
-        for declaration in spec.declarations.as_slice() {
-            declarations.add(text, spec, *declaration, limits)?;
+        for declaration in &spec.declarations {
+            declarations.add(reading, declaration)?;
         }
         Ok(declarations)
     }
 
-    fn add(
-        &mut self,
-        text: &[u8],
-        spec: &Spec,
-        declaration: Declaration,
-        limits: Limits,
-    ) -> Result<(), DeclarationFault>
-        ensures { Declaring text.now limits self.old self.new spec.now declaration result }
+    fn add(&mut self, reading: Reading, declaration: &Declaration) -> Result<(), DeclarationFault>
+        ensures { Declaring reading.entry.text.now reading.entry.limits self.old self.new (declared_of declaration.now) result }
     {
         match declaration {
             Declaration::Value { name, kind, shared } => {
-                self.unused(text, name, limits)?;
-                let kind = type_of(text, kind)?;
-                self.name(name, Meaning::Value { kind, shared })
+                self.unused(reading, *name)?;
+                let kind = type_of(reading.text, *kind)?;
+                let shared = *shared;
+                self.name(*name, Meaning::Value { kind, shared })
             }
             Declaration::Function {
                 name,
                 class,
                 result,
-                first,
-                end,
+                parameters,
             } => {
-                self.unused(text, name, limits)?;
-                let result = type_of(text, result)?;
-                let start = self.parameters.len();
-                read_parameters(text, spec, first, end, &mut self.parameters)?;
-                self.function(name, class, result, start)
+                self.unused(reading, *name)?;
+                let result = type_of(reading.text, *result)?;
+                let parameters = read_parameters(reading, parameters)?;
+                self.function(*name, *class, result, parameters)
             }
             Declaration::Knows { knower, term } => {
-                let knower = self.principal(text, knower)?;
-                self.known(text, spec, Some(knower), term, limits)
+                let knower = self.principal(reading.text, *knower)?;
+                self.known(reading, Some(knower), term)
             }
-            Declaration::EverybodyKnows { term } => self.known(text, spec, None, term, limits),
+            Declaration::EverybodyKnows { term } => self.known(reading, None, term),
         }
     }
 
     // A name is declared once.
-    fn unused(&self, text: &[u8], name: Name, limits: Limits) -> Result<(), DeclarationFault>
+    fn unused(&self, reading: Reading, name: Name) -> Result<(), DeclarationFault>
         ensures room { OnOk result (vec_len self.now.names < 128) }
-        ensures unused { result ≡ fresh text.now limits self.now.names.items name }
+        ensures unused { result ≡ fresh reading.entry.text.now reading.entry.limits self.now.names.items name }
     {
         let at = name.at;
-        if self.find(text, name.part).is_some() {
+        if self.find(reading.text, name.part).is_some() {
             return Err(DeclarationFault::Redeclared { at });
         }
-        if self.names.len() >= limits.names.min(MOST_NAMES) {
+        if self.names.len() >= reading.limits.most_names() {
             return Err(DeclarationFault::Limit { at });
         }
         Ok(())
     }
 
+    // Called behind `unused`, which saw that there is room.
     fn name(&mut self, name: Name, meaning: Meaning) -> Result<(), DeclarationFault>
         requires { vec_len self.old.names < 128 }
         ensures longer { OnOk result (vec_len self.new.names ≡ vec_len self.old.names + 1) }
@@ -90,16 +94,15 @@ impl Declarations {
         Ok(())
     }
 
-    // A function, whose parameters were read from `first` on.
     fn function(
         &mut self,
         name: Name,
         class: FunctionClass,
         res: ValueType,
-        first: usize,
+        parameters: Vec<ValueType>,
     ) -> Result<(), DeclarationFault>
         requires { vec_len self.old.names < 128 }
-        ensures { Done (MoreFunctions self.old self.new (function_name name (vec_len self.old.functions)) (function_row name class res first (vec_len self.old.parameters))) result }
+        ensures { Done (MoreFunctions self.old self.new (function_name name (vec_len self.old.functions)) (function_row name class res parameters)) result }
     {
         let number = self.functions.len() as u8;
         self.name(name, Meaning::Function(number))?;
@@ -107,8 +110,7 @@ impl Declarations {
             name: name.part,
             class,
             result: res,
-            first,
-            end: self.parameters.len(),
+            parameters,
         })?;
         Ok(())
     }
@@ -116,33 +118,28 @@ impl Declarations {
     // Starting knowledge: a function's name alone is the right to apply it, anything else a term.
     fn known(
         &mut self,
-        text: &[u8],
-        spec: &Spec,
+        reading: Reading,
         knower: Option<u8>,
-        term: usize,
-        limits: Limits,
+        term: &Term,
     ) -> Result<(), DeclarationFault>
-        ensures { Knowing text.now limits self.old self.new spec.now.terms.items knower term result }
+        ensures { Knowing reading.entry.text.now reading.entry.limits self.old self.new knower (term_of term.now) result }
     {
-        if let Some(function) = self.right(text, spec, term) {
+        if let Some(function) = self.right(reading.text, term) {
             self.rights.push(Right { knower, function })?;
             return Ok(());
         }
-        let term = self.term(text, spec, term, limits)?;
+        let term = self.term(reading.text, term, reading.limits)?;
         self.starts.push(Start { knower, term })?;
         Ok(())
     }
 
-    fn right(&self, text: &[u8], spec: &Spec, term: usize) -> Option<u8>
-        ensures { Righting text.now self.now spec.now.terms.items term result }
+    fn right(&self, text: &[u8], term: &Term) -> Option<u8>
+        ensures { Righting text.now self.now (term_of term.now) result }
     {
-        if term >= spec.terms.len() {
-            return None;
-        }
-        let Form::Name(name) = spec.terms[term].form else {
+        let Term::Name(name) = term else {
             return None;
         };
-        self.function_of(text, name)
+        self.function_of(text, name.part)
     }
 }
 
@@ -150,31 +147,20 @@ impl Declarations {
 fn type_of(text: &[u8], name: Name) -> Result<ValueType, DeclarationFault>
     ensures { result ≡ kind_of text.now name }
 {
-    let kind = name.part.of(text);
-    if kind == b"number".as_slice() {
-        return Ok(ValueType::Number);
+    match name.part.of(text) {
+        b"number" => Ok(ValueType::Number),
+        b"principal" => Ok(ValueType::Principal),
+        _ => Err(DeclarationFault::WrongType { at: name.at }),
     }
-    if kind == b"principal".as_slice() {
-        return Ok(ValueType::Principal);
-    }
-    Err(DeclarationFault::WrongType { at: name.at })
 }
 
-// The types of a function's parameters.
-fn read_parameters(
-    text: &[u8],
-    spec: &Spec,
-    first: usize,
-    end: usize,
-    parameters: &mut Vec<ValueType>,
-) -> Result<(), DeclarationFault>
-    ensures { Kinds text.now (take (end - first) (drop first spec.now.parameters.items)) parameters.old.items parameters.new.items result }
+// The types of a function's parameters. By a loop, which an invariant of one line proves: to collect them would take a lemma.
+fn read_parameters(reading: Reading, names: &[Name]) -> Result<Vec<ValueType>, DeclarationFault>
+    ensures { Kinds reading.entry.text.now names.now result }
 {
-    for number in first..end {
-        if number < spec.parameters.len() {
-            let kind = type_of(text, spec.parameters[number])?;
-            parameters.push(kind)?;
-        }
+    let mut parameters = Vec::new(reading.heap);
+    for name in names {
+        parameters.push(type_of(reading.text, *name)?)?;
     }
-    Ok(())
+    Ok(parameters)
 }

@@ -5,10 +5,10 @@ ghost use Rattle.terms.specs.declared.fault.TermFault.TheVariants as term_faults
 ghost use Rattle.terms.specs.declared.fault.DeclarationFault.TheVariants as declaration_faults;
 
 use std::alloc::AllocFailed;
-use text::fault::Refusal;
+use text::refusal::{Cause, Layer, Refusal};
 
 // A term is refused, in a declaration or in a line.
-#[derive(Clone, Copy, Debug)]
+#[derive(Clone, Copy, PartialEq, Eq, Debug)]
 pub enum TermFault {
     // there are too many terms
     Limit { at: usize },
@@ -18,6 +18,7 @@ pub enum TermFault {
     NoMemory,
 }
 
+// `?` asks for this of each type of error.
 impl<T: Drop> From<AllocFailed<T>> for TermFault {
     ghost from_gives = { λ _ r. r ≡ term_faults.NoMemory };
 
@@ -26,7 +27,7 @@ impl<T: Drop> From<AllocFailed<T>> for TermFault {
     }
 }
 
-#[derive(Clone, Copy, Debug)]
+#[derive(Clone, Copy, PartialEq, Eq, Debug)]
 pub enum DeclarationFault {
     // there are too many names or terms
     Limit { at: usize },
@@ -38,20 +39,20 @@ pub enum DeclarationFault {
 }
 
 impl DeclarationFault {
-    // Want of memory is no refusal.
+    // Want of memory is no refusal: an `Option`, and no `From`.
     pub fn refusal(&self) -> Option<Refusal>
         ensures { result ≡ declaration_refusal self.now }
     {
-        let (number, place) = match *self {
-            DeclarationFault::Limit { at } => (1, at),
-            DeclarationFault::Redeclared { at } => (6, at),
-            DeclarationFault::Undeclared { at } => (7, at),
-            DeclarationFault::WrongType { at } => (8, at),
+        let (cause, place) = match *self {
+            DeclarationFault::Limit { at } => (Cause::Limit, at),
+            DeclarationFault::Redeclared { at } => (Cause::Redeclared, at),
+            DeclarationFault::Undeclared { at } => (Cause::Undeclared, at),
+            DeclarationFault::WrongType { at } => (Cause::WrongType, at),
             DeclarationFault::NoMemory => return None,
         };
         Some(Refusal {
-            number,
-            layer: 3,
+            cause,
+            layer: Layer::Declarations,
             place,
         })
     }
@@ -70,6 +71,7 @@ impl From<TermFault> for DeclarationFault {
     }
 }
 
+// `?` asks for this of each type of error.
 impl<T: Drop> From<AllocFailed<T>> for DeclarationFault {
     ghost from_gives = { λ _ r. r ≡ declaration_faults.NoMemory };
 

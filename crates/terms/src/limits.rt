@@ -1,5 +1,5 @@
 // How much a translation may take. A caller may lower each limit; none goes above the standard one.
-ghost use Rattle.std.specs.Prelude.{◌≡◌};
+ghost use Rattle.std.specs.Prelude.{◌≡◌, min};
 ghost use Rattle.terms.specs.Limits.{standard_limits};
 
 #[derive(Clone, Copy)]
@@ -35,5 +35,38 @@ impl Limits {
             registers: MOST_REGISTERS,
             actions: MOST_ACTIONS,
         }
+    }
+}
+
+// The limits that hold.
+impl Limits {
+    pub fn most_names(self) -> usize
+        ensures { result ≡ min self.names 128 }
+    {
+        self.names.min(MOST_NAMES)
+    }
+
+    pub fn most_terms(self) -> usize
+        ensures { result ≡ min self.terms 512 }
+    {
+        self.terms.min(MOST_TERMS)
+    }
+
+    pub fn most_roles(self) -> usize
+        ensures { result ≡ min self.roles 8 }
+    {
+        self.roles.min(MOST_ROLES)
+    }
+
+    pub fn most_registers(self) -> usize
+        ensures { result ≡ min self.registers 512 }
+    {
+        self.registers.min(MOST_REGISTERS)
+    }
+
+    pub fn most_actions(self) -> usize
+        ensures { result ≡ min self.actions 4096 }
+    {
+        self.actions.min(MOST_ACTIONS)
     }
 }

@@ -7,7 +7,7 @@ ghost use Rattle.terms.specs.Scope.{Scope};
 ghost use Rattle.terms.specs.Meanings.{Means};
 ghost use Rattle.terms.specs.Starting.{concerns, given_to, has_right, is_makeable, made_among};
 
-use crate::declarations::{Declarations, Meaning, Start, ValueType};
+use crate::declarations::{Declarations, Declared, Meaning, Start, ValueType};
 use crate::fault::TermFault;
 use crate::term::TermRow;
 use std::alloc::Global;
@@ -20,7 +20,7 @@ impl Declarations {
         ensures refused { IfErr result (λ e. e ≡ NoMemory) }
     {
         let mut terms = Vec::new(heap);
-        for start in self.starts.as_slice() {
+        for start in &self.starts {
             if self.starts_from(*start, name) {
                 terms.push(start.term)?;
             }
@@ -38,12 +38,8 @@ impl Declarations {
     pub fn has_right(&self, name: u8, function: usize) -> bool
         ensures { result ≡ has_right name function self.now.rights.items }
     {
-        for right in self.rights.as_slice() {
-            if right.function as usize == function && is_for(right.knower, name) {
-                return true;
-            }
-        }
-        false
+        self.rights.iter().any(|right| right.function as usize == function
+            && is_for(right.knower, name))
     }
 
     // The names that were numbered as terms from `before` on and may be made: no shared ones, and no principals.
@@ -52,11 +48,11 @@ impl Declarations {
         ensures refused { IfErr result (λ e. e ≡ NoMemory) }
     {
         let mut made = Vec::new(heap);
-        for term in before..self.terms.len() {
-            if let TermRow::Name(name) = self.terms.row(term as u16) {
-                if self.may_be_made(name) {
-                    made.push(name)?;
-                }
+        for row in self.terms.since(before) {
+            if let TermRow::Name(name) = *row
+                && self.may_be_made(name)
+            {
+                made.push(name)?;
             }
         }
         Ok(made)
@@ -65,14 +61,16 @@ impl Declarations {
     fn may_be_made(&self, name: u8) -> bool
         ensures { result ≡ is_makeable self.now.names.items name }
     {
-        let number = name as usize;
-        if number >= self.names.len() {
-            return false;
-        }
-        match self.names[number].meaning {
-            Meaning::Value { kind, shared } => kind == ValueType::Number && !shared,
-            Meaning::Function(_) => false,
-        }
+        matches!(
+            self.names.get(name as usize),
+            Some(Declared {
+                meaning: Meaning::Value {
+                    kind: ValueType::Number,
+                    shared: false
+                },
+                ..
+            })
+        )
     }
 }
 
@@ -80,8 +78,5 @@ impl Declarations {
 fn is_for(knower: Option<u8>, name: u8) -> bool
     ensures { result ≡ concerns knower name }
 {
-    match knower {
-        None => true,
-        Some(knower) => knower == name,
-    }
+    knower.is_none_or(|knower| knower == name)
 }

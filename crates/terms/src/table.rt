@@ -1,5 +1,6 @@
-// Terms by number: equal terms have one number, and a term's parts have smaller ones.
-ghost use Rattle.std.specs.Prelude.{◌≡◌, ◌<◌, ◌≤◌, [], length, vec_len, Decides, MatchOption};
+// Terms by number: equal terms have one number, and a term's parts have smaller ones. The number is the place in a list and not
+// the value of a map, which would own each row a second time.
+ghost use Rattle.std.specs.Prelude.{◌≡◌, ◌<◌, ◌≤◌, [], drop, length, vec_len, MatchOption};
 ghost use Rattle.program.specs.Actions.{head_of};
 ghost use Rattle.terms.specs.Rows.{Ordered, Formed, Distinct, row_at, shape_of, Stands};
 ghost use Rattle.terms.specs.Shapes.{named, formed, two_parts, AllBelow};
@@ -35,16 +36,23 @@ impl TermTable {
         self.rows.len()
     }
 
-    // The row of a term. A number that no term has gives the name 0.
+    // The row of a term. A number that no term has gives the name 0: it answers no `Option`, since it is called for terms that
+    // are there.
     pub fn row(&self, term: u16) -> TermRow
         ensures value { result ≡ row_at self.now.rows.items term }
         ensures stands { term < vec_len self.now.rows → Stands self.now.rows.items term result }
     {
-        let at = term as usize;
-        if at >= self.rows.len() {
-            return TermRow::Name(0);
-        }
-        self.rows[at]
+        self.rows
+            .get(term as usize)
+            .copied()
+            .unwrap_or(TermRow::Name(0))
+    }
+
+    // The rows from a number on.
+    pub(crate) fn since(&self, before: usize) -> &[TermRow]
+        ensures { result.now ≡ drop before self.now.rows.items }
+    {
+        self.rows.get(before..).unwrap_or(&[])
     }
 
     // The number of a name. There are at most `most` terms; one too many is refused at its place.
@@ -58,21 +66,15 @@ impl TermTable {
     pub(crate) fn compound(
         &mut self,
         kind: Kind,
-        parts: &[u16],
+        parts: Parts,
         most: usize,
         at: usize,
     ) -> Result<u16, TermFault>
-        requires { (AllBelow (vec_len self.old.rows) parts.now) × ((length parts.now ≤ 8) × (two_parts (formed (head_of kind) parts.now) ≡ 2)) }
-        ensures { Interned self.old.rows.items self.new.rows.items (formed (head_of kind) parts.now) most at result }
+        requires below { AllBelow (vec_len self.old.rows) parts }
+        requires whole { two_parts (formed (head_of kind) parts) ≡ 2 }
+        ensures { Interned self.old.rows.items self.new.rows.items (formed (head_of kind) parts) most at result }
     {
-        self.intern(
-            TermRow::Compound {
-                kind,
-                parts: Parts::from_slice(parts),
-            },
-            most,
-            at,
-        )
+        self.intern(TermRow::Compound { kind, parts }, most, at)
     }
 
     // The number of a row, which is added if it is not there.
@@ -80,7 +82,7 @@ impl TermTable {
         requires { Fits (vec_len self.old.rows) row }
         ensures { Interned self.old.rows.items self.new.rows.items (shape_of row) most at result }
     {
-        if let Some(term) = find_row(self.rows.as_slice(), row) {
+        if let Some(term) = find_row(&self.rows, &row) {
             return Ok(term);
         }
         let term = self.rows.len();
@@ -93,30 +95,10 @@ impl TermTable {
 }
 
 // The number of a row among some rows.
-fn find_row(rows: &[TermRow], row: TermRow) -> Option<u16>
+fn find_row(rows: &[TermRow], row: &TermRow) -> Option<u16>
     requires { length rows.now ≤ 65536 }
-    ensures { MatchOption result (Absent rows.now row) (λ k. At rows.now row k) }
+    ensures { MatchOption result (Absent rows.now row.now) (λ k. At rows.now row.now k) }
 {
-    for i in 0..rows.len() {
-        if same_row(rows[i], row) {
-            return Some(i as u16);
-        }
-    }
-    None
-}
-
-// Are two rows one term?
-fn same_row(a: TermRow, b: TermRow) -> bool
-    ensures { Decides result (shape_of a ≡ shape_of b) }
-{
-    match a {
-        TermRow::Name(m) => match b {
-            TermRow::Name(n) => m == n,
-            TermRow::Compound { kind: _, parts: _ } => false,
-        },
-        TermRow::Compound { kind: k, parts: p } => match b {
-            TermRow::Name(_) => false,
-            TermRow::Compound { kind: l, parts: q } => k == l && p.as_slice() == q.as_slice(),
-        },
-    }
+    let term = rows.iter().position(|known| *known == *row)?;
+    Some(term as u16)
 }

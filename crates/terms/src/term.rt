@@ -2,7 +2,7 @@
 use program::kind::Kind;
 use program::parts::Parts;
 
-#[derive(Clone, Copy)]
+#[derive(Clone, Copy, PartialEq, Eq)]
 pub enum TermRow {
     Name(u8),
     Compound { kind: Kind, parts: Parts },

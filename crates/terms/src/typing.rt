@@ -1,88 +1,66 @@
-// The types of a term: a node before its parts.
-ghost use Rattle.std.specs.Prelude.{◌≡◌, ◌<◌, ◌≤◌, IfOk, slice_index_or};
-ghost use Rattle.terms.specs.Scope.{meaning_of};
-ghost use Rattle.terms.specs.Typing.{fits as type_fits, name_fits};
-ghost use Rattle.terms.specs.Checked.{wanted_of, Applied, Checked, CheckedAll};
-ghost use Rattle.terms.specs.declared.declarations.ValueType.TheVariants as value_type;
+// The types of a term: each node before its parts, and those from left to right.
+ghost use Rattle.std.specs.Prelude.{◌≡◌};
+ghost use Rattle.syntax.specs.Views.{term_of, terms_of};
+ghost use Rattle.terms.specs.Scope.{Scope, meaning_of};
+ghost use Rattle.terms.specs.Typing.{fits as type_fits, name_fits, applied, typed, typed_all};
+ghost use Rattle.terms.specs.Meanings.{Means};
+ghost use Rattle.terms.specs.Checked.{found};
 
 use crate::declarations::{Declarations, Function, Meaning, ValueType};
 use crate::fault::TermFault;
-use syntax::spec::{Form, Name, TermNode};
+use syntax::spec::{Name, Term};
 
 impl Declarations {
-    // Whether a term has the type that is wanted. Answers the node behind the term.
+    // Whether a term has the type that is wanted.
     #[cycle(check_check_parts)]
-    pub(crate) fn check(
-        &self,
-        text: &[u8],
-        terms: &[TermNode],
-        term: usize,
-        wanted: ValueType,
-    ) -> Result<usize, TermFault>
-        ensures further { IfOk result (λ next. term < next) }
-        ensures checked { Checked text.now self.now terms.now term wanted result }
+    pub(crate) fn check(&self, text: &[u8], term: &Term, wanted: ValueType) -> Result<(), TermFault>
+        ensures { (S : Scope) → Means self.now S → result ≡ typed text.now S (term_of term.now) wanted }
     {
-        if term >= terms.len() {
-            return Err(TermFault::WrongType { at: 0 });
-        }
-        let TermNode { at, form } = terms[term];
-        let next = term + 1;
-        match form {
-            Form::Name(part) => {
-                self.check_name(text, Name { at, part }, wanted)?;
-                Ok(next)
+        match term {
+            Term::Name(name) => self.check_name(text, *name, wanted),
+            Term::Tuple { at, parts } => {
+                fits(*at, ValueType::Number, wanted)?;
+                self.check_parts(text, parts, &[])
             }
-            Form::Tuple { parts } => {
-                fits(at, ValueType::Number, wanted)?;
-                self.check_parts(text, terms, next, parts, None)
+            Term::Crypt {
+                at,
+                text: plain,
+                key,
+            } => {
+                fits(*at, ValueType::Number, wanted)?;
+                self.check(text, plain, ValueType::Number)?;
+                self.check(text, key, ValueType::Number)
             }
-            Form::Crypt => {
-                fits(at, ValueType::Number, wanted)?;
-                self.check_parts(text, terms, next, 2, None)
-            }
-            Form::Apply { function, parts } => {
-                let function = self.applied(text, function)?;
-                if function.end.saturating_sub(function.first) != parts as usize {
-                    return Err(TermFault::WrongType { at });
+            Term::Apply {
+                at,
+                function,
+                arguments,
+            } => {
+                let function = self.applied(text, *function)?;
+                if function.parameters.len() != arguments.len() {
+                    return Err(TermFault::WrongType { at: *at });
                 }
-                fits(at, function.result, wanted)?;
-                self.check_parts(text, terms, next, parts, Some(function))
+                fits(*at, function.result, wanted)?;
+                self.check_parts(text, arguments, &function.parameters)
             }
         }
     }
 
-    // The parts of a term. A function says what is wanted of its arguments.
+    // Some terms, against the types that are wanted of them; where none is said, a number is wanted.
     #[cycle(check_check_parts)]
     fn check_parts(
         &self,
         text: &[u8],
-        terms: &[TermNode],
-        first: usize,
-        count: u8,
-        function: Option<Function>,
-    ) -> Result<usize, TermFault>
-        ensures further { IfOk result (λ next. first ≤ next) }
-        ensures checked { CheckedAll text.now self.now terms.now first count function result }
+        parts: &[Term],
+        wanted: &[ValueType],
+    ) -> Result<(), TermFault>
+        ensures { (S : Scope) → Means self.now S → result ≡ typed_all text.now S (terms_of parts.now) wanted.now }
     {
-        let mut next = first;
-        for number in 0..count {
-            let wanted = self.wanted(function, number);
-            next = self.check(text, terms, next, wanted)?;
+        for (place, part) in parts.iter().enumerate() {
+            let wanted = wanted.get(place).copied().unwrap_or(ValueType::Number);
+            self.check(text, part, wanted)?;
         }
-        Ok(next)
-    }
-
-    fn wanted(&self, function: Option<Function>, number: u8) -> ValueType
-        ensures { result ≡ slice_index_or (wanted_of self.now.parameters.items function) number value_type.Number }
-    {
-        let Some(function) = function else {
-            return ValueType::Number;
-        };
-        let at = function.first.saturating_add(number as usize);
-        if at >= self.parameters.len() {
-            return ValueType::Number;
-        }
-        self.parameters[at]
+        Ok(())
     }
 
     fn check_name(&self, text: &[u8], name: Name, wanted: ValueType) -> Result<(), TermFault>
@@ -92,13 +70,13 @@ impl Declarations {
         match self.meaning(text, name.part) {
             None => Err(TermFault::Undeclared { at }),
             Some(Meaning::Function(_)) => Err(TermFault::WrongType { at }),
-            Some(Meaning::Value { kind, shared: _ }) => fits(at, kind, wanted),
+            Some(Meaning::Value { kind, .. }) => fits(at, kind, wanted),
         }
     }
 
     // The function of an application.
-    fn applied(&self, text: &[u8], name: Name) -> Result<Function, TermFault>
-        ensures { Applied self.now.functions.items name (meaning_of text.now self.now.names.items name.part) result }
+    fn applied(&self, text: &[u8], name: Name) -> Result<&Function, TermFault>
+        ensures { (S : Scope) → Means self.now S → found result ≡ applied S.functions name (meaning_of text.now S.names name.part) }
     {
         let at = name.at;
         let Some(meaning) = self.meaning(text, name.part) else {
@@ -107,10 +85,9 @@ impl Declarations {
         let Meaning::Function(number) = meaning else {
             return Err(TermFault::WrongType { at });
         };
-        if number as usize >= self.functions.len() {
-            return Err(TermFault::WrongType { at });
-        }
-        Ok(self.functions[number as usize])
+        self.functions
+            .get(number as usize)
+            .ok_or(TermFault::WrongType { at })
     }
 }
 

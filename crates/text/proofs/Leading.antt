@@ -1,121 +1,86 @@
--- The steps of filling a table go along with reading byte by byte.
-use Rattle.std.proofs.Common.{◌≡◌, ℕ, ◌+◌, ◌<◌, ◌≤◌, Bool, true, false, cond, ◌||◌, ltb, leb, List, [], ◌∷◌, length, get_or, take, drop, Ok, Err, Result, sym, refl, ap, ◌∙◌, subst, arith, drop-drop}
-use Rattle.std.proofs.lemmas.List.{length_push, drop_all, drop_more}
-use Rattle.std.proofs.lemmas.Bool.{true≢false, cond-true, cond-false, le-leb, lt-leb}
-use Rattle.text.specs.Bytes.{class, blank, span}
+-- The steps of building a tree go along with reading byte by byte.
+use Rattle.std.proofs.Common.{◌≡◌, ℕ, ◌+◌, ◌<◌, ◌≤◌, Bool, true, false, cond, ltb, leb, List, [], ◌∷◌, length, get_or, take, drop, Some, None, Option, Ok, Err, Result, sym, refl, ap, ◌∙◌, subst, arith, drop-drop}
+use Rattle.std.proofs.lemmas.List.{drop_all, drop_more}
+use Rattle.std.proofs.lemmas.Bool.{true≢false, cond-true, cond-false, le-leb, lt-leb, leb-false, or_parts}
+use Rattle.text.specs.Bytes.{class, blank, begins, span}
 use Rattle.text.specs.declared.class.ByteClass.{ByteClass}
 use Rattle.text.specs.declared.class.ByteClass.TheVariants.{Blank, Quote, Open, Close, Digit, Backslash, Other}
-use Rattle.text.specs.Filling.{leaf_row, Added, Entered, Closed}
-use Rattle.text.specs.Machine.{Frame, Point, before, inside, after, between, put, closed, step_between, follow, run}
+use Rattle.text.specs.Machine.{Frame, Point, before, after, between, step_between, follow, run}
+use Rattle.text.specs.Nodes.{tree_of}
 use Rattle.text.specs.Reading.{count, full, read, reading, too_long, cut, Answers}
-use Rattle.text.specs.Standing.{opens, Stands, level, Begun, Whole, Leads}
-use Rattle.text.specs.Tokens.{Lexed, lex, Read}
-use Rattle.text.specs.Trees.{Tree, none, rows, table}
+use Rattle.text.specs.Standing.{frames, level, turn, Room, Turns, Leads, Ends}
+use Rattle.text.specs.Tokens.{Lexed, lex, limited, token, Read}
+use Rattle.text.specs.Trees.{Tree}
 use Rattle.text.specs.declared.fault.TextFault.{TextFault}
 use Rattle.text.specs.declared.fault.TextFault.TheVariants.{Limit, Broken, NoMemory}
 use Rattle.text.specs.declared.node.Node.{Node}
-use Rattle.text.specs.declared.nodes.Nodes.{Nodes}
-use Rattle.text.specs.declared.node.NodeKind.{NodeKind}
-use Rattle.text.specs.declared.node.NodeKind.TheVariants.{Bracket}
-use Rattle.text.specs.declared.part.Part.{Part}
 use Rattle.text.specs.declared.token.Token.{Token}
-use Rattle.text.specs.declared.token.Token.TheVariants.{Close as CloseToken}
+use Rattle.text.specs.declared.token.Token.TheVariants.{Quoted as QuotedToken, Integer as IntegerToken, Open as OpenToken, Close as CloseToken}
+use Rattle.text.specs.declared.builder.Open.{Open as OpenBracket}
 use Rattle.text.proofs.Forward.{read_ok}
-use Rattle.text.proofs.Passing.{stops, stay_blank, turn, on_point, carry, one_token}
-use Rattle.text.proofs.Tabling.{length_tabled, length_opens, stands_put, stands_enter, stands_close, level_rows, level_full}
-
-begun_put : (t : Tree) (fs : List Frame) → Begun (put t fs)
-begun_put t [] = tt
-begun_put t (f ∷ fs) = tt
+use Rattle.text.proofs.Passing.{stops, stay_blank, on_point, carry, one_token}
 
 read_err : (old new : ℕ) (l : Lexed) (e : TextFault) → Read old l (Err e) new → l ≡ Err e
 read_err old new (Ok p) e h = let a = h.0 in cc
 read_err old new (Err d) e h = let q : d ≡ e = cc h.0 in rw q
 
--- A fault, whatever comes of the table.
-pub leads_err : (xs : List ℕ) (at : ℕ) (p : Point) (Q : Point → Type 0) (to : ℕ) (rs : List Node) (pending : List ℕ) (e : TextFault) → run full at (between p) (drop at xs) ≡ Err e → Leads xs at p (Err e) Q to rs pending
-leads_err xs at p Q to rs pending (Limit e) h = h
-leads_err xs at p Q to rs pending (Broken e) h = h
-leads_err xs at p Q to rs pending NoMemory h = tt
-
-pub leads_no_memory : (xs : List ℕ) (at : ℕ) (p : Point) (Q : Point → Type 0) (to : ℕ) (rs : List Node) (pending : List ℕ) (e : TextFault) → e ≡ NoMemory → Leads xs at p (Err e) Q to rs pending
-leads_no_memory xs at p Q to rs pending e q = subst (λ z. Leads xs at p (Err z) Q to rs pending) (sym q) tt
-
-module _ (xs : List ℕ) (at to : ℕ) (b : Bool) (rs : List Node) (pending : List ℕ) (q : b ≡ (leb 4096 (length rs) || leb 32 (length pending))) (fs : List Frame) (h : Stands (level fs) rs pending) where
-  lexed : run full at (between (level fs)) (drop at xs) ≡ carry full xs fs (lex b at (drop at xs))
-  lexed = one_token full xs fs at ∙ ap (λ z. carry full xs fs (lex z at (drop at xs))) (sym (q ∙ level_full fs rs pending h))
-
-  pub lead_break : (e : TextFault) (rs' : List Node) (pending' : List ℕ) → Read at (lex b at (drop at xs)) (Err e) to → Leads xs at (level fs) (Err e) Begun to rs' pending'
-  lead_break e rs' pending' r = leads_err xs at (level fs) Begun to rs' pending' e (lexed ∙ ap (carry full xs fs) (read_err at to (lex b at (drop at xs)) e r))
-
-  module _ (t : Token) (r : Read at (lex b at (drop at xs)) (Ok t) to) where
-    on : run full at (between (level fs)) (drop at xs) ≡ on_point full xs to (turn fs t)
-    on = lexed ∙ ap (carry full xs fs) (read_ok at to (lex b at (drop at xs)) t r)
-
-    pub lead_add : (k : ℕ) (kind : NodeKind) (u : Tree) → turn fs t ≡ Ok (put u fs) → ((n : ℕ) → rows n u ≡ leaf_row k kind n ∷ []) → (o : Result Unit TextFault) (rs' : List Node) (pending' : List ℕ) → Added k kind rs pending o rs' pending' → Leads xs at (level fs) o Begun to rs' pending'
-    lead_add k kind u e w (Ok x) rs' pending' (a, c) =
-        let l = level_rows fs rs pending h in
-        let n : length rs ≡ count fs = ap length l.0 ∙ length_tabled fs in (
-          put u fs,
-          on ∙ ap (on_point full xs to) e,
-          begun_put u fs,
-          stands_put u fs rs' pending' (a ∙ rw (n, l.0, w (count fs))) (c ∙ l.1),
-        )
-    lead_add k kind u e w (Err x) rs' pending' a = leads_no_memory xs at (level fs) Begun to rs' pending' x a
-
-    pub lead_enter : (k : ℕ) (s : Part) → turn fs t ≡ Ok (inside (record { at = k; symbol = s; parts = none }) fs) → (o : Result Unit TextFault) (rs' : List Node) (pending' : List ℕ) → Entered k (Bracket s) rs pending o rs' pending' → Leads xs at (level fs) o Begun to rs' pending'
-    lead_enter k s e (Ok x) rs' pending' (a, c) =
-        let l = level_rows fs rs pending h in
-        let n : length rs ≡ count fs = ap length l.0 ∙ length_tabled fs in (
-          inside (record { at = k; symbol = s; parts = none }) fs,
-          on ∙ ap (on_point full xs to) e,
-          tt,
-          stands_enter k s fs rs' pending' (a ∙ rw (n, l.0)) (c ∙ rw (n, l.1)),
-        )
-    lead_enter k s e (Err x) rs' pending' a = leads_no_memory xs at (level fs) Begun to rs' pending' x a
-
-no_open : (f : Frame) (fs : List Frame) → opens (f ∷ fs) ≡ [] → ⊥
-no_open f fs e = let n = length_opens (f ∷ fs) in let z = ap length e in omega arith
-
-module _ (xs : List ℕ) (at to : ℕ) (b : Bool) (rs : List Node) (pending : List ℕ) (q : b ≡ (leb 4096 (length rs) || leb 32 (length pending))) where
-  pub lead_close : (k : ℕ) (fs : List Frame) → Stands (level fs) rs pending → (t : Token) → t ≡ CloseToken k → Read at (lex b at (drop at xs)) (Ok t) to → (o : Result Unit TextFault) (rs' : List Node) (pending' : List ℕ) → Closed k rs pending o rs' pending' → Leads xs at (level fs) o Begun to rs' pending'
-  lead_close k [] h t g r (Ok x) rs' pending' (row, e, w) = let z = ap length (sym h.1 ∙ e) ∙ length_push pending' row in absurd (omega arith)
-  lead_close k (f ∷ fs) h t g r (Ok x) rs' pending' (row, e, w) = (
-    put (closed f) fs,
-    on xs at to b rs pending q (f ∷ fs) h t r ∙ ap (λ z. on_point full xs to (turn (f ∷ fs) z)) g,
-    begun_put (closed f) fs,
-    stands_close f fs rs pending h rs' pending' row e w,
-  )
-  lead_close k [] h t g r (Err x) rs' pending' (e, w) = leads_err xs at before Begun to rs' pending' x (on xs at to b rs pending q [] h t r ∙ ap (λ z. on_point full xs to (turn [] z)) g ∙ ap (λ z. Err z) (sym e))
-  lead_close k (f ∷ fs) h t g r (Err x) rs' pending' (e, w) = absurd (no_open f fs (sym h.1 ∙ w))
-
--- No bracket is open: the term is whole. One is open: reading goes on inside.
-pub now_whole : (q : Point) (rs : List Node) (pending : List ℕ) → Begun q → Stands q rs pending → length pending ≡ 0 → Whole q
-now_whole before rs pending g h e = g
-now_whole (inside f fs) rs pending g h e = no_open f fs (nil (opens (f ∷ fs)) (sym (ap length h.1) ∙ e))
-  where
-    nil : (l : List ℕ) → length l ≡ 0 → l ≡ []
-    nil [] e = refl
-    nil (x ∷ l) e = absurd (omega arith)
-now_whole (after t) rs pending g h e = tt
-
-pub now_inside : (q : Point) (rs : List Node) (pending : List ℕ) → Begun q → Stands q rs pending → (length pending ≡ 0 → ⊥) → (fs : List Frame) × (q ≡ level fs) × Stands (level fs) rs pending
-now_inside before rs pending g h n = absurd g
-now_inside (inside f fs) rs pending g h n = (f ∷ fs, refl, h)
-now_inside (after t) rs pending g h n = absurd (n (ap length h.1))
-
 -- One token more on the way from the text's beginning.
-module _ (xs ys : List ℕ) (same : ys ≡ xs) (start at to : ℕ) (fs : List Frame) (so_far : run full start (between before) (drop start xs) ≡ run full at (between (level fs)) (drop at xs)) (rs : List Node) (pending : List ℕ) (u : Unit {0}) (l : Leads ys at (level fs) (Ok u) Begun to rs pending) where
-  pub on_to : run full start (between before) (drop start xs) ≡ run full to (between l.0) (drop to xs)
-  on_to = so_far ∙ subst (λ zs. run full at (between (level fs)) (drop at zs) ≡ run full to (between l.0) (drop to zs)) same l.1
+module _ (xs ys : List ℕ) (same : ys ≡ xs) (start at to : ℕ) (fs : List Frame) (so_far : Leads xs start before at (Ok (level fs))) (b : Bool) (q : b ≡ full fs) where
+  leads : (r : Result Point TextFault) → run full at (between (level fs)) (drop at xs) ≡ on_point full xs to r → Leads xs start before to r
+  leads (Ok p) h = so_far ∙ h
+  leads (Err e) h = so_far ∙ h
 
-  pub term_whole : length pending ≡ 0 → Leads xs start before (Ok u) Whole to rs pending
-  term_whole e = (l.0, on_to, now_whole l.0 rs pending l.2 l.3 e, l.3)
+  lexed : run full at (between (level fs)) (drop at xs) ≡ carry full xs fs (lex b at (drop at ys))
+  lexed = one_token full xs fs at ∙ rw (q, same)
 
-  pub term_goes_on : (length pending ≡ 0 → ⊥) → (gs : List Frame) × (run full start (between before) (drop start xs) ≡ run full to (between (level gs)) (drop to xs)) × Stands (level gs) rs pending
-  term_goes_on n =
-      let g = now_inside l.0 rs pending l.2 l.3 n in
-      (g.0, on_to ∙ ap (λ q. run full to (between q) (drop to xs)) g.1, g.2)
+  pub lead_fault : (e : TextFault) → Read at (lex b at (drop at ys)) (Err e) to → Leads xs start before to (Err e)
+  lead_fault e r = leads (Err e) (lexed ∙ ap (carry full xs fs) (read_err at to (lex b at (drop at ys)) e r))
+
+  pub lead_token : (t : Token) → Read at (lex b at (drop at ys)) (Ok t) to → Leads xs start before to (turn fs t)
+  lead_token t r = leads (turn fs t) (lexed ∙ ap (carry full xs fs) (read_ok at to (lex b at (drop at ys)) t r))
+
+-- The term is whole, or reading ends with a fault.
+pub ends_err : (e : TextFault) → Ends (Err e) (Err e)
+ends_err (Limit at) = refl
+ends_err (Broken at) = refl
+ends_err NoMemory = tt
+
+pub turns_err : (q : Result Point TextFault) (e : TextFault) (os : List OpenBracket) (n : ℕ) → Turns q (Err e) os n → Ends q (Err e)
+turns_err q (Limit at) os n h = h
+turns_err q (Broken at) os n h = h
+turns_err q NoMemory os n h = tt
+
+pub turns_some : (q : Result Point TextFault) (r : Option Node) (n : Node) (os : List OpenBracket) (k : ℕ) → r ≡ Some n → Turns q (Ok r) os k → Ends q (Ok n)
+turns_some q r n os k e h = subst (λ o. Turns q (Ok o) os k) e h
+
+pub turns_none : (q : Result Point TextFault) (r : Option Node) (os : List OpenBracket) (k : ℕ) → r ≡ None → Turns q (Ok r) os k → (q ≡ Ok (level (frames os))) × (k ≡ count (frames os))
+turns_none q r os k e h = subst (λ o. Turns q (Ok o) os k) e h
+
+-- A token that is read begins a node only where there is room for it.
+room_for : (n : ℕ) (t : Token) → n < 4096 → Room n t
+room_for n (QuotedToken at p) h = h
+room_for n (IntegerToken at v) h = h
+room_for n (OpenToken at s) h = h
+room_for n (CloseToken at) h = tt
+
+room_full : (at n : ℕ) (bs : List ℕ) (k : ByteClass) (t : Token) (to : ℕ) → cond (begins k) (Err (Limit at)) (token at bs k) ≡ Ok (t, to) → Room n t
+room_full at n bs Blank t to e = let z : ◌≡◌ {A = ℕ} 0 1 = cc in absurd (omega arith)
+room_full at n bs Quote t to e = let z : ◌≡◌ {A = ℕ} 0 1 = cc in absurd (omega arith)
+room_full at n bs Open t to e = let z : ◌≡◌ {A = ℕ} 0 1 = cc in absurd (omega arith)
+room_full at n bs Close t to e = let q : ◌≡◌ {A = Token × ℕ} (CloseToken at, at + 1) (t, to) = cc in subst (λ (x : Token × ℕ). Room n x.0) q tt
+room_full at n bs Digit t to e = let z : ◌≡◌ {A = ℕ} 0 1 = cc in absurd (omega arith)
+room_full at n bs Backslash t to e = let z : ◌≡◌ {A = ℕ} 0 1 = cc in absurd (omega arith)
+room_full at n bs Other t to e = let z : ◌≡◌ {A = ℕ} 0 1 = cc in absurd (omega arith)
+
+room_limited : (b : Bool) (at n : ℕ) (bs : List ℕ) (t : Token) (to : ℕ) → limited b at bs ≡ Ok (t, to) → (b ≡ false → n < 4096) → Room n t
+room_limited b at n [] t to e h = let z : ◌≡◌ {A = ℕ} 0 1 = cc in absurd (omega arith)
+room_limited true at n (c ∷ bs) t to e h = room_full at n (c ∷ bs) (class c) t to e
+room_limited false at n (c ∷ bs) t to e h = room_for n t (h refl)
+
+pub room : (b : Bool) (fs : List Frame) → b ≡ full fs → (n : ℕ) → n ≡ count fs → (at to : ℕ) (bs : List ℕ) (t : Token) → Read at (lex b at bs) (Ok t) to → Room n t
+room b fs q n c at to bs t r =
+    room_limited b (at + span blank bs) n (drop (span blank bs) bs) t to (read_ok at to (lex b at bs) t r)
+    (λ f. let l = leb-false 4096 (count fs) (or_parts (leb 4096 (count fs)) (leb 32 (length fs)) (sym q ∙ f)).0 in omega arith)
 
 -- After the term there are blanks alone.
 module _ (xs : List ℕ) (at : ℕ) (t : Tree) (end : ℕ) (e : end ≡ at + span blank (drop at xs)) where
@@ -143,28 +108,25 @@ module _ (xs : List ℕ) (at : ℕ) (t : Tree) (end : ℕ) (e : end ≡ at + spa
       rest_is ∙ ap (run full end (between (after t))) d ∙ no_blank (class (get_or xs end 0)) s (get_or xs end 0) (drop (end + 1) xs)
 
 -- The whole text, once its term is read.
-module _ (text xs ys : List ℕ) (q : xs ≡ text) (r : ys ≡ xs) (start to end : ℕ) (z : start ≡ 0) (e : end ≡ to + span blank (drop to ys)) (rs : List Node) (pending : List ℕ) (u : Unit {0}) where
+module _ (text xs ys : List ℕ) (q : xs ≡ text) (r : ys ≡ xs) (start to end : ℕ) (z : start ≡ 0) (e : end ≡ to + span blank (drop to ys)) (o : Result Point TextFault) (n : Node) (w : Ends o (Ok n)) (l : Leads xs start before to o) where
   end_is : end ≡ to + span blank (drop to text)
   end_is = e ∙ ap (λ l. to + span blank (drop to l)) (r ∙ q)
 
-  read_is : (p : Point) → run full start (between before) (drop start xs) ≡ run full to (between p) (drop to xs) → read text ≡ run full to (between p) (drop to text)
-  read_is p h =
-      let a = subst (λ l. run full start (between before) (drop start l) ≡ run full to (between p) (drop to l)) q h in
-      subst (λ k. run full k (between before) (drop k text) ≡ run full to (between p) (drop to text)) z a
+  read_is : read text ≡ run full to (between (after (tree_of n))) (drop to text)
+  read_is =
+      let h = subst (λ p. Leads xs start before to p) w l in
+      let a = subst (λ l. Leads l start before to (Ok (after (tree_of n)))) q h in
+      subst (λ k. run full k (between before) (drop k text) ≡ run full to (between (after (tree_of n))) (drop to text)) z a
 
-  pub text_trails : Leads xs start before (Ok u) Whole to rs pending → end < length text → read text ≡ Err (Broken end)
-  text_trails (before, h, w, s) l = absurd w
-  text_trails (inside f fs, h, w, s) l = absurd w
-  text_trails (after t, h, w, s) l = read_is (after t) h ∙ trailing text to t end end_is l
+  pub text_trails : end < length text → read text ≡ Err (Broken end)
+  text_trails l = read_is ∙ trailing text to (tree_of n) end end_is l
 
-  pub text_read : Leads xs start before (Ok u) Whole to rs pending → length text ≤ end → (t : Tree) × (read text ≡ Ok t) × (rs ≡ table t)
-  text_read (before, h, w, s) l = absurd w
-  text_read (inside f fs, h, w, s) l = absurd w
-  text_read (after t, h, w, s) l = (t, read_is (after t) h ∙ all_read text to t end end_is l, s.0)
+  pub text_read : length text ≤ end → read text ≡ Ok (tree_of n)
+  text_read l = read_is ∙ all_read text to (tree_of n) end end_is l
 
 -- A text that is cut as too long.
-pub cut_answers : (o : Result Tree TextFault) (r : Result Nodes TextFault) → Answers o r → Answers (too_long o) (Err (cut r))
-cut_answers o (Ok n) (t, e, w) = ap too_long e
+pub cut_answers : (o : Result Tree TextFault) (r : Result Node TextFault) → Answers o r → Answers (too_long o) (Err (cut r))
+cut_answers o (Ok n) e = ap too_long e
 cut_answers o (Err (Limit at)) e = ap too_long e
 cut_answers o (Err (Broken at)) e = go (ltb at 65536) (ap too_long e)
   where
@@ -173,10 +135,10 @@ cut_answers o (Err (Broken at)) e = go (ltb at 65536) (ap too_long e)
     go false h = h
 cut_answers o (Err NoMemory) e = tt
 
-pub short_answers : (text : List ℕ) (r : Result Nodes TextFault) → length text ≤ 65535 → Answers (read text) r → Answers (reading text) r
+pub short_answers : (text : List ℕ) (r : Result Node TextFault) → length text ≤ 65535 → Answers (read text) r → Answers (reading text) r
 short_answers text r l h = subst (λ o. Answers o r) (sym (cond-true (leb (length text) 65535) (read text) (too_long (read (take 65536 text))) (le-leb (length text) 65535 l))) h
 
-pub long_answers : (text part : List ℕ) (r : Result Nodes TextFault) → 65535 < length text → part ≡ take 65536 text → Answers (read part) r → Answers (reading text) (Err (cut r))
+pub long_answers : (text part : List ℕ) (r : Result Node TextFault) → 65535 < length text → part ≡ take 65536 text → Answers (read part) r → Answers (reading text) (Err (cut r))
 long_answers text part r l q h =
     subst (λ o. Answers o (Err (cut r))) (sym (cond-false (leb (length text) 65535) (read text) (too_long (read (take 65536 text))) (lt-leb (length text) 65535 l)))
     (cut_answers (read (take 65536 text)) r (subst (λ p. Answers (read p) r) q h))

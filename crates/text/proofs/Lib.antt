@@ -1,12 +1,7 @@
 pub mod Spans
-pub mod Parts
 pub mod Lexing
 pub mod Forward
-pub mod Sound
-pub mod Filled
 pub mod Passing
-pub mod Tabling
-pub mod Leading
 pub mod Spots
 pub mod Completing
 pub mod Stepping
@@ -16,5 +11,6 @@ pub mod Seen
 pub mod Outcome
 pub mod Laws
 pub mod Located
-pub mod Walks
 pub mod Decided
+pub mod Building
+pub mod Leading

@@ -3,15 +3,14 @@ use Rattle.std.proofs.Common.{◌≡◌, ℕ, suc, ◌+◌, ◌-◌, ◌*◌, �
 use Rattle.std.proofs.lemmas.Bool.{true≢false, ne_eqb, le-leb, and_parts, leb-true}
 use Rattle.text.specs.Bytes.{class, blank, plain, symbol, begins as begins_node, span}
 use Rattle.text.specs.Tokens.{Lexed, lex, limited, token, quoted as lex_quoted, quote_after, quote_end, opening, opened, number, number_next}
-use Rattle.text.specs.Trees.{Tree, quoted, integer, none}
+use Rattle.text.specs.Trees.{Tree, integer}
 use Rattle.text.specs.Machine.{Frame, Point, before, inside, after, State, between, in_bracket, in_symbol, in_quotes, in_integer, put, closed, broken, goes, step_between, step_bracket, named, step_symbol, step_quotes, step_integer, step, finish, follow, run}
-use Rattle.text.specs.Standing.{level}
+use Rattle.text.specs.Standing.{level, turn}
 use Rattle.text.specs.declared.class.ByteClass.{ByteClass}
 use Rattle.text.specs.declared.class.ByteClass.TheVariants.{Blank, Quote, Open, Close, Digit, Backslash, Other}
 use Rattle.text.specs.declared.fault.TextFault.{TextFault}
 use Rattle.text.specs.declared.fault.TextFault.TheVariants.{Limit, Broken}
-use Rattle.text.specs.declared.token.Token.{Token}
-use Rattle.text.specs.declared.token.Token.TheVariants.{Quoted as QuotedToken, Integer as IntegerToken, Open as OpenToken, Close as CloseToken}
+use Rattle.text.specs.declared.token.Token.TheVariants.{Close as CloseToken}
 
 -- Where a run of bytes stops, the next byte is none of them.
 pub stops : (p : ByteClass → Bool) (bs : List ℕ) (b : ℕ) (rest : List ℕ) → drop (span p bs) bs ≡ b ∷ rest → p (class b) ≡ false
@@ -37,14 +36,6 @@ digit_high b e = leb-true b 57 (and_parts (leb 48 b) (leb b 57) (go (eqb b 32 ||
     go false false false false true y e = refl
     go false false false false false true e = let z : ◌≡◌ {A = ℕ} 0 1 = cc in absurd (omega arith)
     go false false false false false false e = let z : ◌≡◌ {A = ℕ} 0 1 = cc in absurd (omega arith)
-
--- What a token does to the open brackets.
-abbrev pub turn : List Frame → Token → Result Point TextFault
-turn fs (QuotedToken at p) = Ok (put (quoted at p) fs)
-turn fs (IntegerToken at n) = Ok (put (integer at n) fs)
-turn fs (OpenToken at s) = Ok (inside (record { at = at; symbol = s; parts = none }) fs)
-turn [] (CloseToken at) = Err (Broken at)
-turn (f ∷ fs) (CloseToken at) = Ok (put (closed f) fs)
 
 module _ (full : List Frame → Bool) where
   -- Bytes that leave the state as it is.

@@ -1,18 +1,17 @@
--- Steps of a loop along a run of bytes.
-use Rattle.std.proofs.Common.{◌≡◌, ℕ, suc, ◌+◌, ◌<◌, ◌≤◌, Bool, true, false, List, length, get_or, drop, add-one, drop-cons}
-use Rattle.std.proofs.lemmas.List.{drop_all}
+-- How many bytes a run has.
+use Rattle.std.proofs.Common.{◌≡◌, ℕ, suc, Bool, cond, List, [], ◌∷◌, min, length, take, drop, refl, ap, ◌∙◌, arith, ◌+◌, ◌-◌, length-drop}
+use Rattle.std.proofs.lemmas.List.{drop_min, take_all}
+use Rattle.std.specs.List.{prefix_len}
 use Rattle.text.specs.Bytes.{class, span}
 use Rattle.text.specs.declared.class.ByteClass.{ByteClass}
 
-module _ (p : ByteClass → Bool) (xs : List ℕ) (i : ℕ) where
-  pub span_pass : i < length xs → p (class (get_or xs i 0)) ≡ true → span p (drop i xs) ≡ suc (span p (drop (i + 1) xs))
-  unfolding span
-  span_pass h e = rw (drop-cons xs i 0, add-one, e)
+pub span_prefix : (p : ByteClass → Bool) (bs : List ℕ) → span p bs ≡ prefix_len (λ b. p (class b)) bs
+unfolding span
+span_prefix p [] = refl
+span_prefix p (b ∷ bs) =
+    let more : suc (span p bs) ≡ 1 + prefix_len (λ x. p (class x)) bs = omega (arith, span_prefix p bs) in
+    ap (λ n. cond (p (class b)) n 0) more
 
-  pub span_stop : i < length xs → p (class (get_or xs i 0)) ≡ false → span p (drop i xs) ≡ 0
-  unfolding span
-  span_stop h e = rw (drop-cons xs i 0, e)
-
-  pub span_end : length xs ≤ i → span p (drop i xs) ≡ 0
-  unfolding span
-  span_end h = rw drop_all
+-- The bytes from a place on, which may lie past the end.
+pub rest_from : (xs : List ℕ) (from at : ℕ) → at ≡ min from (length xs) → take (length xs - at) (drop at xs) ≡ drop from xs
+rest_from xs from at e = take_all (length xs - at) (drop at xs) (omega (arith, length-drop at xs)) ∙ ap (λ k. drop k xs) e ∙ drop_min from xs

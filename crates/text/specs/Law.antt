@@ -1,12 +1,13 @@
 -- What reading a text answers, in the words of the grammar.
-use Rattle.std.specs.Prelude.{◌≡◌, ℕ, ◌+◌, ◌<◌, ◌≤◌, ◌⊎◌, List, [], ◌∷◌, ◌++◌, length, take, drop, Ok, Err, vec_items, Result}
+use Rattle.std.specs.Prelude.{◌≡◌, ℕ, ◌+◌, ◌<◌, ◌≤◌, ◌⊎◌, List, [], ◌∷◌, ◌++◌, length, take, drop, Ok, Err, Result}
 use Rattle.text.specs.Bytes.{plain, symbol}
 use Rattle.text.specs.Grammar.{MadeOf, Text, Begins}
 use Rattle.text.specs.Reading.{reading}
-use Rattle.text.specs.Trees.{Tree, quoted, integer, bracket, Trees, none, more, table}
+use Rattle.text.specs.Trees.{Tree, quoted, integer, bracket, Trees, none, more}
 use Rattle.text.specs.declared.fault.TextFault.{TextFault}
 use Rattle.text.specs.declared.fault.TextFault.TheVariants.{Limit, Broken, NoMemory}
-use Rattle.text.specs.declared.nodes.Nodes.{Nodes}
+use Rattle.text.specs.declared.node.Node.{Node}
+use Rattle.text.specs.Nodes.{tree_of}
 use Rattle.text.specs.declared.part.Part.{Part}
 
 -- The nodes of a tree, each with its place and its level, a node before its parts.
@@ -105,26 +106,26 @@ abbrev pub Decided : List ℕ → Type 0
 Decided text = (o : Result Tree TextFault) → Obeys text o → o ≡ reading text
 
 -- An answer obeys the law, want of memory aside.
-abbrev pub Lawful : List ℕ → Result Nodes TextFault → Type 0
-Lawful text (Ok read) = (t : Tree) × Obeys text (Ok t) × (vec_items read.rows ≡ table t)
+abbrev pub Lawful : List ℕ → Result Node TextFault → Type 0
+Lawful text (Ok node) = Obeys text (Ok (tree_of node))
 Lawful text (Err (Broken p)) = Obeys text (Err (Broken p))
 Lawful text (Err (Limit p)) = Obeys text (Err (Limit p))
 Lawful text (Err NoMemory) = Unit {0}
 
--- A text that spells a tree is answered with its table, unless a node or the length passes a limit; it is never broken.
-abbrev pub Known : List ℕ → Tree → Result Nodes TextFault → Type 0
-Known text t (Ok read) = vec_items read.rows ≡ table t
+-- A text that spells a tree is answered with its root, unless a node or the length passes a limit; it is never broken.
+abbrev pub Known : List ℕ → Tree → Result Node TextFault → Type 0
+Known text t (Ok node) = tree_of node ≡ t
 Known text t (Err (Broken p)) = ⊥
 Known text t (Err (Limit p)) = Passes p t ⊎ ((p ≡ 65535) × (65535 < length text))
 Known text t (Err NoMemory) = Unit {0}
 
 -- Nothing within the limits is refused.
-abbrev pub Accepted : Tree → Result Nodes TextFault → Type 0
-Accepted t (Ok read) = vec_items read.rows ≡ table t
+abbrev pub Accepted : Tree → Result Node TextFault → Type 0
+Accepted t (Ok node) = tree_of node ≡ t
 Accepted t (Err (Broken p)) = ⊥
 Accepted t (Err (Limit p)) = ⊥
 Accepted t (Err NoMemory) = Unit {0}
 
-pub record Accepts (text : List ℕ) (r : Result Nodes TextFault) : Type 0 where
+pub record Accepts (text : List ℕ) (r : Result Node TextFault) : Type 0 where
   pub spelled : (t : Tree) → Text text t → Known text t r
   pub within : (t : Tree) → Text text t → Fits (nodes 1 t) → length text ≤ 65535 → Accepted t r

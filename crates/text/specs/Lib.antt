@@ -1,12 +1,10 @@
 pub mod Bytes
-pub mod Filling
 pub mod Grammar
 pub mod Law
 pub mod Machine
+pub mod Nodes
 pub mod Reading
 pub mod Refusals
-pub mod Rows
 pub mod Standing
 pub mod Tokens
 pub mod Trees
-pub mod Walks

@@ -1,10 +1,11 @@
 -- What reading a text answers.
-use Rattle.std.specs.Prelude.{◌≡◌, ℕ, suc, ◌+◌, Bool, cond, ◌||◌, List, [], ◌∷◌, length, take, Ok, Err, vec_items, Result, nat_le, nat_lt}
-use Rattle.text.specs.Trees.{Tree, sizes, table}
+use Rattle.std.specs.Prelude.{◌≡◌, ℕ, suc, ◌+◌, Bool, cond, ◌||◌, List, [], ◌∷◌, length, take, Ok, Err, Result, nat_le, nat_lt}
+use Rattle.text.specs.Trees.{Tree, sizes}
 use Rattle.text.specs.Machine.{Frame, before, between, run}
 use Rattle.text.specs.declared.fault.TextFault.{TextFault}
 use Rattle.text.specs.declared.fault.TextFault.TheVariants.{Limit, Broken, NoMemory}
-use Rattle.text.specs.declared.nodes.Nodes.{Nodes}
+use Rattle.text.specs.declared.node.Node.{Node}
+use Rattle.text.specs.Nodes.{tree_of}
 
 -- How many nodes have begun, with these brackets open.
 unfoldable pub count : List Frame → ℕ
@@ -30,16 +31,16 @@ too_long (Err NoMemory) = Err NoMemory
 abbrev pub reading : List ℕ → Result Tree TextFault
 reading text = cond (nat_le (length text) 65535) (read text) (too_long (read (take 65536 text)))
 
--- The answer is this one, want of memory aside: the tree's table, or the fault.
-abbrev pub Answers : Result Tree TextFault → Result Nodes TextFault → Type 0
-Answers o (Ok nodes) = (t : Tree) × (o ≡ Ok t) × (vec_items nodes.rows ≡ table t)
+-- The answer is this one, want of memory aside: the tree's root, or the fault.
+abbrev pub Answers : Result Tree TextFault → Result Node TextFault → Type 0
+Answers o (Ok node) = o ≡ Ok (tree_of node)
 Answers o (Err (Limit at)) = o ≡ Err (Limit at)
 Answers o (Err (Broken at)) = o ≡ Err (Broken at)
 Answers o (Err NoMemory) = Unit {0}
 
 -- The fault of a text that was cut to its first 65,536 bytes.
-abbrev pub cut : Result Nodes TextFault → TextFault
-cut (Ok nodes) = Limit 65535
+abbrev pub cut : Result Node TextFault → TextFault
+cut (Ok node) = Limit 65535
 cut (Err (Limit at)) = Limit at
 cut (Err (Broken at)) = cond (nat_lt at 65536) (Broken at) (Limit 65535)
 cut (Err NoMemory) = NoMemory

@@ -1,48 +1,59 @@
--- How a table that is being filled stands for what was read so far.
-use Rattle.std.specs.Prelude.{◌≡◌, ℕ, ◌+◌, List, [], ◌∷◌, ◌++◌, drop, Ok, Err, Result}
-use Rattle.text.specs.Filling.{leaf_row}
-use Rattle.text.specs.Machine.{Frame, Point, before, inside, after, between, run}
+-- How a builder stands for what was read so far.
+use Rattle.std.specs.Prelude.{◌≡◌, ℕ, ◌<◌, List, [], ◌∷◌, drop, map, reverse, Some, None, Ok, Err, Option, Result}
+use Rattle.text.specs.Machine.{Frame, Point, before, inside, after, between, put, closed, run}
+use Rattle.text.specs.Nodes.{tree_of, trees_of}
 use Rattle.text.specs.Reading.{count, full}
-use Rattle.text.specs.Trees.{rows_all, table}
+use Rattle.text.specs.Trees.{quoted, integer, none}
+use Rattle.text.specs.declared.builder.Open.{Open}
 use Rattle.text.specs.declared.fault.TextFault.{TextFault}
 use Rattle.text.specs.declared.fault.TextFault.TheVariants.{Limit, Broken, NoMemory}
 use Rattle.text.specs.declared.node.Node.{Node}
-use Rattle.text.specs.declared.node.NodeKind.TheVariants.{Bracket}
+use Rattle.text.specs.declared.token.Token.{Token}
+use Rattle.text.specs.declared.token.Token.TheVariants.{Quoted as QuotedToken, Integer as IntegerToken, Open as OpenToken, Close as CloseToken}
 
--- The rows of open brackets and of their parts so far, and the open brackets' own rows.
-unfoldable pub tabled : List Frame → List Node
-tabled [] = []
-tabled (f ∷ fs) = tabled fs ++ (leaf_row f.at (Bracket f.symbol) (count fs) ∷ rows_all (count fs + 1) f.parts)
+abbrev pub frame_of : Open → Frame
+frame_of o = record { at = o.at; symbol = o.symbol; parts = trees_of o.parts.items }
 
-unfoldable pub opens : List Frame → List ℕ
-opens [] = []
-opens (f ∷ fs) = opens fs ++ (count fs ∷ [])
-
-abbrev pub Stands : Point → List Node → List ℕ → Type 0
-Stands before rows pending = (rows ≡ []) × (pending ≡ [])
-Stands (inside f fs) rows pending = (rows ≡ tabled (f ∷ fs)) × (pending ≡ opens (f ∷ fs))
-Stands (after t) rows pending = (rows ≡ table t) × (pending ≡ [])
+-- The open brackets, the innermost first.
+abbrev pub frames : List Open → List Frame
+frames os = reverse (map frame_of os)
 
 -- Between tokens, with these brackets open and the text's term not whole.
 abbrev pub level : List Frame → Point
 level [] = before
 level (f ∷ fs) = inside f fs
 
--- A token was read.
-abbrev pub Begun : Point → Type 0
-Begun before = ⊥
-Begun (inside f fs) = Unit {0}
-Begun (after t) = Unit {0}
+-- What a token does in these brackets.
+abbrev pub turn : List Frame → Token → Result Point TextFault
+turn fs (QuotedToken at p) = Ok (put (quoted at p) fs)
+turn fs (IntegerToken at n) = Ok (put (integer at n) fs)
+turn fs (OpenToken at s) = Ok (inside (record { at = at; symbol = s; parts = none }) fs)
+turn [] (CloseToken at) = Err (Broken at)
+turn (f ∷ fs) (CloseToken at) = Ok (put (closed f) fs)
 
--- A step of reading, from `at` on in a text: where it leads, or the fault, want of memory aside.
-abbrev pub Leads : List ℕ → ℕ → Point → Result Unit TextFault → (Point → Type 0) → ℕ → List Node → List ℕ → Type 0
-Leads text at p (Ok u) Q to rows pending = (q : Point) × (run full at (between p) (drop at text) ≡ run full to (between q) (drop to text)) × Q q × Stands q rows pending
-Leads text at p (Err (Limit e)) Q to rows pending = run full at (between p) (drop at text) ≡ Err (Limit e)
-Leads text at p (Err (Broken e)) Q to rows pending = run full at (between p) (drop at text) ≡ Err (Broken e)
-Leads text at p (Err NoMemory) Q to rows pending = Unit {0}
+-- After so many nodes, the node that a token begins is within the limits.
+abbrev pub Room : ℕ → Token → Type 0
+Room begun (QuotedToken at p) = begun < 4096
+Room begun (IntegerToken at n) = begun < 4096
+Room begun (OpenToken at s) = begun < 4096
+Room begun (CloseToken at) = Unit {0}
 
--- The text's term is whole.
-abbrev pub Whole : Point → Type 0
-Whole before = ⊥
-Whole (inside f fs) = ⊥
-Whole (after t) = Unit {0}
+-- Where a builder's step leads, want of memory aside: the text's term is whole, or reading goes on in the open brackets.
+abbrev pub Turns : Result Point TextFault → Result (Option Node) TextFault → List Open → ℕ → Type 0
+Turns q (Ok (Some n)) os begun = q ≡ Ok (after (tree_of n))
+Turns q (Ok None) os begun = (q ≡ Ok (level (frames os))) × (begun ≡ count (frames os))
+Turns q (Err (Limit at)) os begun = q ≡ Err (Limit at)
+Turns q (Err (Broken at)) os begun = q ≡ Err (Broken at)
+Turns q (Err NoMemory) os begun = Unit {0}
+
+-- The same, of all the steps to the term's end.
+abbrev pub Ends : Result Point TextFault → Result Node TextFault → Type 0
+Ends q (Ok n) = q ≡ Ok (after (tree_of n))
+Ends q (Err (Limit at)) = q ≡ Err (Limit at)
+Ends q (Err (Broken at)) = q ≡ Err (Broken at)
+Ends q (Err NoMemory) = Unit {0}
+
+-- Reading a text from `at` on comes to `to`, at a point, or ends with a fault.
+abbrev pub Leads : List ℕ → ℕ → Point → ℕ → Result Point TextFault → Type 0
+Leads text at p to (Ok q) = run full at (between p) (drop at text) ≡ run full to (between q) (drop to text)
+Leads text at p to (Err e) = run full at (between p) (drop at text) ≡ Err e

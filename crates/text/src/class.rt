@@ -2,7 +2,7 @@
 ghost use Rattle.std.specs.Prelude.{◌≡◌, ◌+◌, drop};
 ghost use Rattle.text.specs.Bytes.{class, begins, takes, span};
 
-#[derive(Clone, Copy)]
+#[derive(Clone, Copy, PartialEq, Eq, Debug)]
 pub enum ByteClass {
     // space, tab, carriage return, line feed
     Blank,
@@ -37,8 +37,9 @@ impl ByteClass {
     }
 }
 
-// The runs of bytes in a text: blanks, the inside of a quoted text, a symbol.
-#[derive(Clone, Copy)]
+// The runs of bytes in a text: blanks, the inside of a quoted text, a symbol. They are the grammar's, so an enum names them and no
+// test is passed in.
+#[derive(Clone, Copy, PartialEq, Eq, Debug)]
 pub enum Run {
     Blanks,
     Quoted,
@@ -51,7 +52,7 @@ impl Run {
         ensures { result ≡ takes self (class b) }
     {
         match self {
-            Run::Blanks => matches!(class_of(b), ByteClass::Blank),
+            Run::Blanks => class_of(b) == ByteClass::Blank,
             Run::Quoted => !matches!(class_of(b), ByteClass::Quote | ByteClass::Backslash),
             Run::Symbol => matches!(
                 class_of(b),
@@ -64,10 +65,7 @@ impl Run {
     pub fn end(self, text: &[u8], from: usize) -> usize
         ensures { result ≡ from + span (takes self) (drop from text.now) }
     {
-        let mut i = from;
-        while i < text.len() && self.has(text[i]) {
-            i += 1;
-        }
-        i
+        let rest = &text[from.min(text.len())..];
+        from + rest.iter().take_while(|b| self.has(**b)).count()
     }
 }

@@ -1,11 +1,12 @@
 // Why a text was not read.
 ghost use Rattle.std.specs.Prelude.{◌≡◌};
 ghost use Rattle.text.specs.declared.fault.TextFault.TheVariants.{NoMemory};
-ghost use Rattle.text.specs.Refusals.{refusal_of};
+ghost use Rattle.text.specs.Refusals.{text_refusal};
 
+use crate::refusal::{Cause, Layer, Refusal};
 use std::alloc::{AllocError, AllocFailed};
 
-#[derive(Clone, Copy, Debug)]
+#[derive(Clone, Copy, PartialEq, Eq, Debug)]
 pub enum TextFault {
     // a limit is passed, with the byte at this place
     Limit { at: usize },
@@ -14,35 +15,25 @@ pub enum TextFault {
     NoMemory,
 }
 
-// A refusal's number, the layer that refuses, and the place.
-#[derive(Clone, Copy, Debug)]
-pub struct Refusal {
-    pub number: u8,
-    pub layer: u8,
-    pub place: usize,
-}
-
 impl TextFault {
-    // Want of memory is no refusal.
+    // Want of memory is no refusal: an `Option`, and no `From`.
     pub fn refusal(&self) -> Option<Refusal>
-        ensures { result ≡ refusal_of self.now }
+        ensures { result ≡ text_refusal self.now }
     {
-        match *self {
-            TextFault::Limit { at } => Some(Refusal {
-                number: 1,
-                layer: 1,
-                place: at,
-            }),
-            TextFault::Broken { at } => Some(Refusal {
-                number: 2,
-                layer: 1,
-                place: at,
-            }),
-            TextFault::NoMemory => None,
-        }
+        let (cause, place) = match *self {
+            TextFault::Limit { at } => (Cause::Limit, at),
+            TextFault::Broken { at } => (Cause::Broken, at),
+            TextFault::NoMemory => return None,
+        };
+        Some(Refusal {
+            cause,
+            layer: Layer::Text,
+            place,
+        })
     }
 }
 
+// `?` asks for these of each type of error.
 impl<T: Drop> From<AllocFailed<T>> for TextFault {
     ghost from_gives = { λ _ r. r ≡ NoMemory };
 

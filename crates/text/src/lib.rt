@@ -1,14 +1,14 @@
-// Reading text: from bytes to a table of nodes with their places.
+// Reading text: from bytes to a tree of nodes with their places.
 #![tactic(auto)]
 
+mod builder;
 pub mod class;
 pub mod fault;
 pub mod node;
-pub mod nodes;
 pub mod part;
 pub mod reader;
 pub mod reading;
-mod table;
+pub mod refusal;
 pub mod token;
 
 pub use crate::reading::read_text;

@@ -1,20 +1,21 @@
-// A node of a tree, as a row of the table.
+// The nodes of a text's tree, each with the place of its first byte.
 use crate::part::Part;
 
-#[derive(Clone, Copy)]
-pub enum NodeKind {
-    // the bytes between the quotes
-    Quoted(Part),
-    Integer(u32),
-    // the symbol
-    Bracket(Part),
-}
-
-#[derive(Clone, Copy)]
-pub struct Node {
-    // the first byte: a quote, a digit, an opening bracket
-    pub at: usize,
-    // the row after the node's last part
-    pub end: usize,
-    pub kind: NodeKind,
+#[derive(Drop)]
+pub enum Node {
+    // the place of the first quote, and the bytes between the quotes
+    Quoted {
+        at: usize,
+        inside: Part,
+    },
+    Integer {
+        at: usize,
+        value: u32,
+    },
+    // an opening bracket with its symbol, and the nodes in it
+    Bracket {
+        at: usize,
+        symbol: Part,
+        parts: Vec<Node>,
+    },
 }

@@ -1,7 +1,7 @@
-// A part of a text, by its place and length.
+// A part of a text, by its place and length. It borrows no text: a name is kept with its place, in tables that outlive the reading of the text.
 ghost use Rattle.std.specs.Prelude.{◌≡◌, take, drop};
 
-#[derive(Clone, Copy)]
+#[derive(Clone, Copy, PartialEq, Eq, Debug)]
 pub struct Part {
     pub at: usize,
     pub len: usize,

@@ -45,17 +45,19 @@ fn token_after(text: &[u8], from: usize, full: bool) -> Result<(Token, usize), T
     ensures { result ≡ lex full from (drop from text.now) }
 {
     let at = Run::Blanks.end(text, from);
-    if at >= text.len() {
+    let Some(first) = text.get(at) else {
         return Err(TextFault::Broken { at });
-    }
-    let class = class_of(text[at]);
+    };
+    let class = class_of(*first);
     if full && class.begins_node() {
         return Err(TextFault::Limit { at });
     }
     token_at(text, at, class)
 }
 
-// The token whose first byte, of this class, stands at `at`.
+// The token whose first byte, of this class, stands at `at`. It and the next ones need that there is such a byte, which was just
+// looked at: a slice from there would need the place beside it.
+#[tactic(auto, using(crate::proofs::Lexing::next_drop))]
 fn token_at(text: &[u8], at: usize, class: ByteClass) -> Result<(Token, usize), TextFault>
     requires { at < length text.now }
     ensures { result ≡ token at (drop at text.now) class }
@@ -75,20 +77,14 @@ fn quoted_text(text: &[u8], at: usize) -> Result<(Token, usize), TextFault>
     ensures { result ≡ quoted at (drop (at + 1) text.now) }
 {
     let end = Run::Quoted.end(text, at + 1);
-    if end >= text.len() {
-        return Err(TextFault::Broken { at: end });
-    }
-    match class_of(text[end]) {
-        ByteClass::Quote => Ok((
-            Token::Quoted {
-                at,
-                inside: Part {
-                    at: at + 1,
-                    len: end - (at + 1),
-                },
-            },
-            end + 1,
-        )),
+    match text.get(end) {
+        Some(last) if class_of(*last) == ByteClass::Quote => {
+            let inside = Part {
+                at: at + 1,
+                len: end - (at + 1),
+            };
+            Ok((Token::Quoted { at, inside }, end + 1))
+        }
         _ => Err(TextFault::Broken { at: end }),
     }
 }
@@ -103,45 +99,38 @@ fn opening_bracket(text: &[u8], at: usize) -> Result<(Token, usize), TextFault>
     if end == from {
         return Err(TextFault::Broken { at: from });
     }
-    Ok((
-        Token::Open {
-            at,
-            symbol: Part {
-                at: from,
-                len: end - from,
-            },
-        },
-        end,
-    ))
+    let symbol = Part {
+        at: from,
+        len: end - from,
+    };
+    Ok((Token::Open { at, symbol }, end))
 }
 
 // The integer whose first digit stands at `at`.
+#[tactic(auto, using(crate::proofs::Lexing::number_step), unfolding(crate::specs::Tokens::number))]
 fn integer(text: &[u8], at: usize) -> Result<(Token, usize), TextFault>
+    requires { at < length text.now }
     ensures { result ≡ number at at 0 (drop at text.now) }
 {
     let mut value = 0;
-    let mut i = at;
-    while i < text.len() {
-        match class_of(text[i]) {
-            ByteClass::Digit => match with_digit(value, text[i]) {
-                Some(longer) => value = longer,
-                None => return Err(TextFault::Broken { at: i }),
-            },
-            ByteClass::Backslash | ByteClass::Other => return Err(TextFault::Broken { at: i }),
-            _ => return Ok((Token::Integer { at, value }, i)),
+    for (place, byte) in text[at..].iter().enumerate() {
+        match class_of(*byte) {
+            ByteClass::Digit => {
+                value = with_digit(value, *byte).ok_or(TextFault::Broken { at: at + place })?;
+            }
+            ByteClass::Backslash | ByteClass::Other => {
+                return Err(TextFault::Broken { at: at + place });
+            }
+            _ => return Ok((Token::Integer { at, value }, at + place)),
         }
-        i += 1;
     }
-    Ok((Token::Integer { at, value }, i))
+    Ok((Token::Integer { at, value }, text.len()))
 }
 
 // The value with one digit more, if an integer may have it.
 fn with_digit(value: u32, digit: u8) -> Option<u32>
     ensures { result ≡ longer value digit }
 {
-    let next = u64::from(value) * 10 + u64::from(digit.saturating_sub(b'0'));
-    if next > 4_294_967_295 {
-        return None;
-    }
-    Some(next as u32)
+    let units = u32::from(digit.saturating_sub(b'0'));
+    value.checked_mul(10)?.checked_add(units)
 }

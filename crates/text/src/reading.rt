@@ -1,89 +1,67 @@
-// From a text to its table of nodes.
-ghost use Rattle.std.specs.Prelude.{◌≡◌, ◌<◌, ◌≤◌, List, length, OnOk};
+// From a text to its tree.
+ghost use Rattle.std.specs.Prelude.{◌≡◌, Result};
 ghost use Rattle.text.specs.Law.{Lawful, Decided, Accepts};
-ghost use Rattle.text.specs.Machine.{Frame, before, between, run};
+ghost use Rattle.text.specs.Machine.{Point, before, between, run};
 ghost use Rattle.text.specs.Reading.{full, reading, Answers, cut};
-ghost use Rattle.text.specs.Standing.{level, Stands, Leads, Begun, Whole};
+ghost use Rattle.text.specs.Standing.{Ends, Leads};
 
+use crate::builder::Builder;
 use crate::fault::TextFault;
-use crate::node::NodeKind;
-use crate::nodes::Nodes;
+use crate::node::Node;
 use crate::reader::Reader;
-use crate::table::Table;
-use crate::token::Token;
 use std::alloc::Global;
 
-// The table of the one term that a text is. A text of more than 65,535 bytes passes a limit with the byte after these, if
+// how many bytes a text has at most
+const MOST_BYTES: usize = 65535;
+
+// The root of the one term that a text is. A text of more than 65,535 bytes passes a limit with the byte after these, if
 // nothing is wrong with it up to there.
-pub fn read_text(heap: Global, text: &[u8]) -> Result<Nodes, TextFault>
+pub fn read_text(heap: Global, text: &[u8]) -> Result<Node, TextFault>
     ensures answers { Answers (reading text.now) result }
     ensures lawful { Lawful text.now result }
     ensures decided { Decided text.now }
     ensures accepts { Accepts text.now result }
 {
-    if text.len() <= 65535 {
+    if text.len() <= MOST_BYTES {
         return read_all(heap, text);
     }
-    Err(fault_of_cut(read_all(heap, &text[0..65536])))
+    Err(fault_of_cut(read_all(heap, &text[..=MOST_BYTES])))
 }
 
 // The fault of a text that is too long, from what its first 65,536 bytes gave.
-fn fault_of_cut(read: Result<Nodes, TextFault>) -> TextFault
+fn fault_of_cut(read: Result<Node, TextFault>) -> TextFault
     ensures { result ≡ cut read }
 {
     match read {
-        Err(TextFault::Broken { at }) => {
-            if at < 65536 {
-                TextFault::Broken { at }
-            } else {
-                TextFault::Limit { at: 65535 }
-            }
-        }
+        Ok(_) => TextFault::Limit { at: MOST_BYTES },
+        Err(TextFault::Broken { at }) if at > MOST_BYTES => TextFault::Limit { at: MOST_BYTES },
         Err(fault) => fault,
-        Ok(_) => TextFault::Limit { at: 65535 },
     }
 }
 
 // The same, for a text of any length.
-fn read_all(heap: Global, text: &[u8]) -> Result<Nodes, TextFault>
+fn read_all(heap: Global, text: &[u8]) -> Result<Node, TextFault>
     ensures { Answers (run full 0 (between before) text.now) result }
 {
     let mut reader = Reader::new(text);
-    let mut table = Table::new(heap);
-    read_term(&mut reader, &mut table)?;
+    let term = read_term(heap, &mut reader)?;
     let end = reader.after_blanks();
     if end < text.len() {
         return Err(TextFault::Broken { at: end });
     }
-    Ok(Nodes { rows: table.rows })
+    Ok(term)
 }
 
 // One term, from its first token to its last.
-fn read_term(reader: &mut Reader, table: &mut Table) -> Result<(), TextFault>
-    requires { Stands before table.old.rows.items table.old.pending.items }
+fn read_term(heap: Global, reader: &mut Reader) -> Result<Node, TextFault>
     ensures same { reader.new.text ≡ reader.old.text }
-    ensures some { OnOk result (0 < length table.new.rows.items) }
-    ensures leads { Leads reader.old.text.now reader.old.at before result Whole reader.new.at table.new.rows.items table.new.pending.items }
+    ensures leads { (q : Result Point TextFault) × Leads reader.old.text.now reader.old.at before reader.new.at q × Ends q result }
 {
+    let mut builder = Builder::new(heap);
     loop {
-        read_token(reader, table)?;
-        if table.pending.is_empty() {
-            return Ok(());
+        let token = reader.next(builder.is_full())?;
+        if let Some(term) = builder.take(token)? {
+            return Ok(term);
         }
-    }
-}
-
-// One token, and what it does to the table.
-fn read_token(reader: &mut Reader, table: &mut Table) -> Result<(), TextFault>
-    ensures same { reader.new.text ≡ reader.old.text }
-    ensures moved { OnOk result ((reader.old.at < reader.new.at) × (reader.new.at ≤ length reader.old.text.now) × (0 < length table.new.rows.items)) }
-    ensures leads { (fs : List Frame) → Stands (level fs) table.old.rows.items table.old.pending.items → Leads reader.old.text.now reader.old.at (level fs) result Begun reader.new.at table.new.rows.items table.new.pending.items }
-{
-    let full = table.is_full();
-    match reader.next(full)? {
-        Token::Quoted { at, inside } => table.add(at, NodeKind::Quoted(inside)),
-        Token::Integer { at, value } => table.add(at, NodeKind::Integer(value)),
-        Token::Open { at, symbol } => table.enter(at, symbol),
-        Token::Close { at } => table.close(at),
     }
 }

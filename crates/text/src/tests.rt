@@ -1,6 +1,7 @@
-// Texts made by hand, each with its outcome: the number of rows, or the refusal's number and place.
+// Texts made by hand, each with its outcome: the number of nodes, or the fault and its place.
 use crate::fault::TextFault;
-use crate::node::{Node, NodeKind};
+use crate::fault::TextFault::{Broken, Limit};
+use crate::node::Node;
 use crate::part::Part;
 use crate::read_text;
 use crate::reader::Reader;
@@ -9,36 +10,52 @@ use std::alloc::{AllocError, Global};
 use std::process::Abort;
 use std::test::Fail;
 
-// Number 0 and the rows, or the refusal's number and place.
-fn outcome(heap: Global, text: &[u8]) -> (u8, usize) {
-    match read_text(heap, text) {
-        Ok(nodes) => (0, nodes.rows.len()),
-        Err(fault) => match fault.refusal() {
-            Some(refusal) => (refusal.number, refusal.place),
-            None => (255, 0),
-        },
-    }
+// The number of nodes, or the fault.
+fn outcome(heap: Global, text: &[u8]) -> Result<usize, TextFault> {
+    let root = read_text(heap, text)?;
+    Ok(nodes(&root))
 }
 
-// The text is read, into this many rows.
-fn reads(rt: &impl Abort, heap: Global, text: &[u8], rows: usize) {
-    assert_eq!(rt; outcome(heap, text), (0, rows));
+// How many nodes a tree has.
+fn nodes(root: &Node) -> usize {
+    let mut count: usize = 1;
+    if let Node::Bracket { parts, .. } = root {
+        for part in parts {
+            count = count.saturating_add(nodes(part));
+        }
+    }
+    count
+}
+
+// The text is read, into this many nodes.
+fn reads(rt: &impl Abort, heap: Global, text: &[u8], nodes: usize) {
+    assert_eq!(rt; outcome(heap, text), Ok(nodes));
 }
 
 // The text is broken at this place.
-fn breaks(rt: &impl Abort, heap: Global, text: &[u8], place: usize) {
-    assert_eq!(rt; outcome(heap, text), (2, place));
+fn breaks(rt: &impl Abort, heap: Global, text: &[u8], at: usize) {
+    assert_eq!(rt; outcome(heap, text), Err(Broken { at }));
 }
 
 // Brackets in brackets.
-fn deep(rt: &impl Abort, heap: Global, depth: usize, expected: (u8, usize)) -> Result<(), Fail> {
+fn deep(
+    rt: &impl Abort,
+    heap: Global,
+    depth: usize,
+    expected: Result<usize, TextFault>,
+) -> Result<(), Fail> {
     let text = nested(heap, depth)?;
     assert_eq!(rt; outcome(heap, text.as_slice()), expected);
     Ok(())
 }
 
 // Parts under one bracket.
-fn wide(rt: &impl Abort, heap: Global, parts: usize, expected: (u8, usize)) -> Result<(), Fail> {
+fn wide(
+    rt: &impl Abort,
+    heap: Global,
+    parts: usize,
+    expected: Result<usize, TextFault>,
+) -> Result<(), Fail> {
     let text = flat(heap, parts)?;
     assert_eq!(rt; outcome(heap, text.as_slice()), expected);
     Ok(())
@@ -50,7 +67,7 @@ fn lengthy(
     heap: Global,
     inside: usize,
     end: &[u8],
-    expected: (u8, usize),
+    expected: Result<usize, TextFault>,
 ) -> Result<(), Fail> {
     let text = long(heap, inside, end)?;
     assert_eq!(rt; outcome(heap, text.as_slice()), expected);
@@ -155,41 +172,55 @@ fn trailing(rt: HostRuntime) {
 #[test]
 fn deep_and_wide(rt: HostRuntime) -> Result<(), Fail> {
     let heap = rt.alloc();
-    deep(&rt, heap, 32, (0, 32))?;
-    deep(&rt, heap, 33, (1, 64))?;
-    wide(&rt, heap, 4000, (0, 4001))?;
-    wide(&rt, heap, 4095, (0, 4096))?;
-    wide(&rt, heap, 4096, (1, 8193))
+    deep(&rt, heap, 32, Ok(32))?;
+    deep(&rt, heap, 33, Err(Limit { at: 64 }))?;
+    wide(&rt, heap, 4000, Ok(4001))?;
+    wide(&rt, heap, 4095, Ok(4096))?;
+    wide(&rt, heap, 4096, Err(Limit { at: 8193 }))
 }
 
 // Texts about as long as a text may be.
 #[test]
 fn long_texts(rt: HostRuntime) -> Result<(), Fail> {
     let heap = rt.alloc();
-    lengthy(&rt, heap, 65533, b"\"", (0, 1))?;
-    lengthy(&rt, heap, 65533, b"\" ", (1, 65535))?;
-    lengthy(&rt, heap, 65533, b"\"x", (2, 65535))?;
-    lengthy(&rt, heap, 65534, b"\\", (2, 65535))?;
-    lengthy(&rt, heap, 65600, b"\"", (1, 65535))
+    lengthy(&rt, heap, 65533, b"\"", Ok(1))?;
+    lengthy(&rt, heap, 65533, b"\" ", Err(Limit { at: 65535 }))?;
+    lengthy(&rt, heap, 65533, b"\"x", Err(Broken { at: 65535 }))?;
+    lengthy(&rt, heap, 65534, b"\\", Err(Broken { at: 65535 }))?;
+    lengthy(&rt, heap, 65600, b"\"", Err(Limit { at: 65535 }))
 }
 
-// Where a row stands, where it ends, and the place and length of its symbol or quoted text, or its value.
-fn shown(node: Node) -> (usize, usize, usize, usize) {
-    match node.kind {
-        NodeKind::Quoted(part) => (node.at, node.end, part.at, part.len),
-        NodeKind::Integer(value) => (node.at, node.end, value as usize, 0),
-        NodeKind::Bracket(part) => (node.at, node.end, part.at, part.len),
+// Where a node stands, the number after its last part if the nodes are numbered from the first on, and the place and length of
+// its symbol or quoted text, or its value.
+fn shown(node: &Node, number: usize) -> (usize, usize, usize, usize) {
+    let end = nodes(node).saturating_add(number);
+    match node {
+        Node::Quoted { at, inside } => (*at, end, inside.at, inside.len),
+        Node::Integer { at, value } => (*at, end, *value as usize, 0),
+        Node::Bracket { at, symbol, .. } => (*at, end, symbol.at, symbol.len),
+    }
+}
+
+// The parts of a bracket.
+fn parts_of(node: &Node) -> &[Node] {
+    match node {
+        Node::Bracket { parts, .. } => parts.as_slice(),
+        _ => &[],
     }
 }
 
 #[test]
 fn rows(rt: HostRuntime) -> Result<(), Fail> {
-    let nodes = read_text(rt.alloc(), b" ( ab (c 7)\"de\" )")?;
-    assert!(rt; nodes.rows.len() == 4);
-    assert_eq!(rt; shown(nodes.rows[0]), (1, 4, 3, 2));
-    assert_eq!(rt; shown(nodes.rows[1]), (6, 3, 7, 1));
-    assert_eq!(rt; shown(nodes.rows[2]), (9, 3, 7, 0));
-    assert_eq!(rt; shown(nodes.rows[3]), (11, 4, 12, 2));
+    let root = read_text(rt.alloc(), b" ( ab (c 7)\"de\" )")?;
+    assert!(rt; nodes(&root) == 4);
+    assert_eq!(rt; shown(&root, 0), (1, 4, 3, 2));
+    let parts = parts_of(&root);
+    assert!(rt; parts.len() == 2);
+    assert_eq!(rt; shown(&parts[0], 1), (6, 3, 7, 1));
+    let inner = parts_of(&parts[0]);
+    assert!(rt; inner.len() == 1);
+    assert_eq!(rt; shown(&inner[0], 2), (9, 3, 7, 0));
+    assert_eq!(rt; shown(&parts[1], 3), (11, 4, 12, 2));
     Ok(())
 }
 
@@ -206,11 +237,11 @@ fn parts(rt: HostRuntime) {
 #[test]
 fn tokens(rt: HostRuntime) {
     let mut reader = Reader::new(b" (a\"b\")");
-    assert!(rt; matches!(reader.next(true), Err(TextFault::Limit { at: 1 })));
+    assert!(rt; matches!(reader.next(true), Err(Limit { at: 1 })));
     assert_eq!(rt; reader.at, 0);
-    assert!(rt; matches!(reader.next(false), Ok(Token::Open { at: 1, symbol: _ })));
+    assert!(rt; matches!(reader.next(false), Ok(Token::Open { at: 1, .. })));
     assert_eq!(rt; reader.at, 3);
-    assert!(rt; matches!(reader.next(false), Ok(Token::Quoted { at: 3, inside: _ })));
+    assert!(rt; matches!(reader.next(false), Ok(Token::Quoted { at: 3, .. })));
     assert!(rt; matches!(reader.next(true), Ok(Token::Close { at: 6 })));
     assert_eq!(rt; reader.after_blanks(), 7);
 }

@@ -1,7 +1,7 @@
 // The tokens of a text, each with its place.
 use crate::part::Part;
 
-#[derive(Clone, Copy)]
+#[derive(Clone, Copy, PartialEq, Eq, Debug)]
 pub enum Token {
     // the place of the first quote, and the bytes between the quotes
     Quoted { at: usize, inside: Part },

@@ -1,11 +1,18 @@
-use mathlib.Core.Path.{subst⁻¹}
-use Rattle.std.proofs.Common.{map, string_bytes, IsAscii}
-use Rattle.program.proofs.Rows.{open_apply_text}
+use Rattle.std.proofs.Common.{◌≡◌, ℕ, List, [], ◌∷◌, ◌++◌, OnOk, Result, map, string_bytes, codes, decimal, refl, ◌∙◌}
+use Rattle.std.proofs.lemmas.List.{append_assoc}
+use Rattle.std.proofs.lemmas.Result.{on_ok_weaker}
+use Rattle.program.specs.declared.action.Action.{Action}
+use Rattle.program.specs.declared.action.Action.TheVariants.{OpenApply}
+use Rattle.program.specs.Printed.{numbers, name, action_text}
 use Rattle.program.proofs.print.print_action.Goals as goal
 
-pub returns-in_ok-print_name-in-OpenApply : goal.returns-in_ok-print_name-in-OpenApply
-returns-in_ok-print_name-in-OpenApply c n =
-    open_apply_text c.print_numbers-in-OpenApply.result (string_bytes c.args.out.now) (string_bytes c.print_numbers-in-OpenApply.new.out) (map (λ x. x.now) c.args.functions.now)
-    _ _ c.in-OpenApply.first c.in-OpenApply.count c.in-OpenApply.source c.in-OpenApply.function c.name_of-in-OpenApply.result.now _ c.in-OpenApply.is
-    c.in_ok-write-in-OpenApply.ensures.bytes c.name_of-in-OpenApply.ensures (c.in_ok-print_name-in-OpenApply.ensures (subst⁻¹ IsAscii c.name_of-in-OpenApply.ensures (n c.in-OpenApply.function)))
-    c.print_numbers-in-OpenApply.ensures
+open_apply_text : {T E : Type 0} (r : Result T E) (o o₁ o' : List ℕ) (names : List (List ℕ)) (a : Action) (f k s g : ℕ) → a ≡ OpenApply f k s g
+    → o₁ ≡ o ++ (codes " open-apply " ++ (decimal f ++ (32 ∷ (decimal k ++ (32 ∷ (decimal s ++ (32 ∷ []))))))) → OnOk r (o' ≡ o₁ ++ (name names g ++ numbers []))
+    → OnOk r (o' ≡ o ++ action_text names a)
+open_apply_text r o o₁ o' names a f k s g e w m = rw e (on_ok_weaker r (λ q. q ∙ rw w (simp append_assoc refl)) m)
+
+pub returns-in_ok-write-in-OpenApply : goal.returns-in_ok-write-in-OpenApply
+returns-in_ok-write-in-OpenApply c n =
+    let a = c.in-OpenApply in
+    open_apply_text c.print_call-in-OpenApply.result (string_bytes c.args.out.now) _ _ (map (λ x. x.now) c.args.functions.now) c.args.action a.first a.count a.source a.function
+    a.is c.in_ok-write-in-OpenApply.ensures.bytes (c.print_call-in-OpenApply.ensures n)

@@ -1,19 +1,16 @@
-use Rattle.std.proofs.Common.{get_or, Some, ◌∙◌}
-use Rattle.std.specs.Str.{bytes_eq}
-use Rattle.syntax.specs.Symbols.{found, entries}
-use Rattle.model.proofs.Scans.{scan_hit, scan_pass, scan_end}
-use Rattle.syntax.proofs.Spelled.{decided, no_entry, found_step, found_none}
+use Rattle.std.proofs.Common.{eqb, rules, tests}
+use Rattle.std.proofs.lemmas.Iterator.{YieldsList-from_slice}
+use Rattle.std.proofs.lemmas.Iterator.Search.{find_from_yields_List}
+use lib.Pointwise.{pointwise}
+use Rattle.syntax.proofs.Spelled.{first_found, none_found}
 use Rattle.syntax.proofs.symbol.find.Goals as goal
 
-pub returns-then-eq : goal.returns-then-eq
-returns-then-eq c =
-    scan_hit (λ es. found c.args.name.now (entries es)) (λ x. bytes_eq c.args.name.now x.0.now) (λ x. Some x.1) (found_step c.args.name.now) c.args.table.now c.loop-spelled.spelled-index no_entry c.loop-spelled-test.true c.loop-spelled.invariant
-    (decided (get_or c.args.table.now c.loop-spelled.spelled-index no_entry).0.now c.args.name.now c.eq.result c.eq.ensures ∙ c.if-eq.true)
-
-pub loop-spelled-preserved : goal.loop-spelled-preserved
-loop-spelled-preserved c =
-    scan_pass (λ es. found c.args.name.now (entries es)) (λ x. bytes_eq c.args.name.now x.0.now) (λ x. Some x.1) (found_step c.args.name.now) c.args.table.now c.loop-spelled.spelled-index no_entry c.loop-spelled-test.true c.loop-spelled.invariant
-    (decided (get_or c.args.table.now c.loop-spelled.spelled-index no_entry).0.now c.args.name.now c.eq.result c.eq.ensures ∙ c.if-eq.false)
+pub returns-in_err-symbol : goal.returns-in_err-symbol
+returns-in_err-symbol c =
+    let h = find_from_yields_List (λ e. pointwise eqb e.0.now c.args.name.now) _ _ c.find.result c.find.ensures.ran (YieldsList-from_slice c.args.table.now cc) (λ x b q k. search (rules, tests)) in
+    rw c.from_residual.ensures (none_found c.args.name.now c.args.table.now c.find.result c.in_err-symbol.was h)
 
 pub returns : goal.returns
-returns c = found_none c.args.name.now ∙ scan_end (λ es. found c.args.name.now (entries es)) c.args.table.now c.loop-spelled.spelled-index c.loop-spelled-test.false c.loop-spelled.invariant
+returns c =
+    let h = find_from_yields_List (λ e. pointwise eqb e.0.now c.args.name.now) _ _ c.find.result c.find.ensures.ran (YieldsList-from_slice c.args.table.now cc) (λ x b q k. search (rules, tests)) in
+    first_found c.args.name.now c.args.table.now c.find.result c.in_ok-symbol.field-0 c.in_ok-symbol.was h

@@ -1,16 +1,14 @@
-use Rattle.std.proofs.Common.{◌≡◌, ◌-◌, List, length, drop, vec_items}
-use Rattle.text.specs.Machine.{Frame, before, between, run}
-use Rattle.text.specs.Reading.{full}
-use Rattle.text.specs.Standing.{level, Stands}
+use Rattle.std.proofs.Common.{◌≡◌, ◌-◌, length, Ok}
+use Rattle.text.specs.Machine.{before}
+use Rattle.text.specs.Reading.{count}
+use Rattle.text.specs.Standing.{frames, level, Leads}
 use Rattle.text.proofs.reading.read_term.Given as goal
 
-abbrev pub invariant-loop : goal.invariant-loop
-invariant-loop l =
+abbrev pub invariant-loop-builder : goal.invariant-loop-builder
+invariant-loop-builder l =
     (l.reader.text ≡ l.initial.reader.text)
-    × ((fs : List Frame)
-    × (run full l.initial.reader.at (between before) (drop l.initial.reader.at l.initial.reader.text.now)
-    ≡ run full l.reader.at (between (level fs)) (drop l.reader.at l.initial.reader.text.now))
-    × Stands (level fs) (vec_items l.table.rows) (vec_items l.table.pending))
+    × (l.builder.begun ≡ count (frames l.builder.brackets.items))
+    × Leads l.initial.reader.text.now l.initial.reader.at before l.reader.at (Ok (level (frames l.builder.brackets.items)))
 
-abbrev pub decreases-loop : goal.decreases-loop
-decreases-loop l = length l.reader.text.now - l.reader.at
+abbrev pub decreases-loop-builder : goal.decreases-loop-builder
+decreases-loop-builder l = length l.reader.text.now - l.reader.at

@@ -2,7 +2,7 @@ use Rattle.std.proofs.Common.{map, Ok, Err, refl, ap, ◌∙◌}
 use Rattle.std.proofs.lemmas.Result.{err_from_is_err_and}
 use Rattle.terms.specs.Terms.{tree_in}
 use Rattle.roles.specs.declared.role.Role.{Role}
-use Rattle.roles.proofs.Played.{kept}
+use Rattle.roles.proofs.Played.{line_ended}
 use Rattle.roles.proofs.Begun.{begun}
 use Rattle.roles.proofs.role.Role.start.Goals as goal
 
@@ -25,7 +25,8 @@ returns-in-Ok c =
     let t = c.args.declarations.now.terms in
     let e = c.in-Ok.ensures in
     let r : Role = record { name = c.args.number; part = c.args.name.part; rows = c.new.result; party = c.in_ok-party.party; state = c.new-2.result } in record {
-      fits = kept t c.args.limits 0 c.args.name.at r c.start.new.self _ refl (record { knows = e.1; orderly = e.2 }) c.end_line.new.self (Ok tt) c.end_line.ensures.rest;
+      fits = (line_ended t (record { line = 0; at = c.args.name.at; limits = c.args.limits }) r c.start.new.self _ refl (record { knows = e.1; orderly = e.2 })
+          c.end_line.new.self (Ok tt) c.end_line.ensures.rest c.in_ok-end_line-in-Ok.ensures.ends).0;
       starts = λ S m.
           begun t c.args.limits S c.args.number c.args.name r refl refl c.new.ensures.items (c.in_ok-party.ensures.functions S m)
           c.as_slice.result.now (ap (map (tree_in t)) c.as_slice.ensures.value ∙ c.in_ok-terms.ensures.given S m)

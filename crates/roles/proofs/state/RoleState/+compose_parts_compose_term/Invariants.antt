@@ -11,6 +11,8 @@ abbrev pub decreases-compose_parts : goal.decreases-compose_parts
 decreases-compose_parts l = l.whole * 2
 
 abbrev pub invariant-compose_parts-loop-part : goal.invariant-compose_parts-loop-part
-invariant-compose_parts-loop-part l =
-    Halfway l.table l.party l.made l.parts l.initial.self l.self (parts_of l.registers) l.part-index
-    × Knows l.table l.self × (length (parts_of l.registers) ≡ l.part-index)
+invariant-compose_parts-loop-part l = record {
+  halfway : Halfway l.view.table.now l.view.party.now l.made l.parts l.initial.self l.self (parts_of l.registers) l.part-index;
+  knows : Knows l.view.table.now l.self;
+  long : length (parts_of l.registers) ≡ l.part-index;
+}

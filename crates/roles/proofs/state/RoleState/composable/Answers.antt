@@ -1,20 +1,25 @@
-use Rattle.std.proofs.Common.{◌+◌, false, vec_items, sym, ap, ◌∙◌, arith}
+use Rattle.std.proofs.Common.{◌+◌, ◌<◌, sym, ◌∙◌, arith}
 use mathlib.Core.Path.{subst⁻¹}
-use Rattle.std.proofs.lemmas.List.{get_or_read}
-use Rattle.roles.specs.Composed.{row_composable}
-use Rattle.roles.proofs.Marks.{Upto, stays, sets}
+use Rattle.terms.specs.Terms.{size}
+use Rattle.roles.proofs.Marks.{Upto, stays, sets, passes}
 use Rattle.roles.proofs.state.RoleState.composable.Goals as goal
-use Rattle.roles.proofs.state.RoleState.composable.Goals.{then-not-index, else-not-index}
+use Rattle.roles.proofs.state.RoleState.composable.Goals.{then-not-has+then-from_parts, else-not-has, else-not-has-via-then-not-has+else-from_parts, else-not-has-via-else-not-has}
 
 pub loop-term-preserved : goal.loop-term-preserved
 loop-term-preserved c =
-    let e = get_or_read (vec_items c.loop-term.composable) c.loop-term.term _ (omega (arith, c.loop-term.invariant.long, c.len-count.ensures)) c.index.ensures false in
-    elim c.if-not-index.branch [
-      | then-not-index w ↦ subst⁻¹ (λ v. Upto c.args.table.now c.args.party.now c.args.self.now (c.loop-term.term + 1) (vec_items v)) w.composable-is
-          (sets c.args.table.now c.args.party.now c.args.self.now c.requires c.loop-term.term (vec_items c.loop-term.composable) c.loop-term.invariant
-          (omega (arith, c.len-count.ensures)) w.from_parts.result (sym e ∙ w.if-not-index.true) w.row.result (w.row.ensures.stands (omega (arith, c.len-count.ensures)))
-          (w.from_parts.ensures ∙ ap (row_composable c.args.party.now w.row.result) w.as_slice.ensures.value))
-      | else-not-index w ↦ subst⁻¹ (λ v. Upto c.args.table.now c.args.party.now c.args.self.now (c.loop-term.term + 1) (vec_items v)) w.composable-is
-          (stays c.args.table.now c.args.party.now c.args.self.now c.requires c.loop-term.term (vec_items c.loop-term.composable) c.loop-term.invariant
-          (omega (arith, c.len-count.ensures)) (sym e ∙ w.if-not-index.false))
+    let t = c.args.view.table.now in
+    let p = c.args.view.party.now in
+    let s = c.args.self.now in
+    let k = c.loop-term.term in
+    let bs = c.loop-term.composable in
+    let u = c.loop-term.invariant in
+    let h : k < size t = omega (arith, c.len-count.ensures) in
+    elim c.if-not-has.branch [
+      | then-not-has+then-from_parts w ↦ subst⁻¹ (Upto t p s (k + 1)) (w.composable-is ∙ w.mark.ensures)
+          (sets t p s c.requires k bs u h (sym c.has.ensures ∙ w.if-not-has.true) _ (w.row.ensures.stands h) (sym w.if-from_parts.true ∙ w.from_parts.ensures))
+      | else-not-has w ↦ subst⁻¹ (Upto t p s (k + 1)) w.composable-is (elim w.else-not-has.branch [
+        | else-not-has-via-then-not-has+else-from_parts v ↦
+            passes t p s c.requires k bs u h (sym c.has.ensures ∙ v.if-not-has.true) _ (v.row.ensures.stands h) (sym v.if-from_parts.false ∙ v.from_parts.ensures)
+        | else-not-has-via-else-not-has v ↦ stays t p s c.requires k bs u h (sym c.has.ensures ∙ v.if-not-has.false)
+      ])
     ]

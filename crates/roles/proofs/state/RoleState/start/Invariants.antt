@@ -4,4 +4,8 @@ use Rattle.roles.proofs.Starting.{GivenUpto}
 use Rattle.roles.proofs.state.RoleState.start.Given as goal
 
 abbrev pub invariant-loop-term : goal.invariant-loop-term
-invariant-loop-term l = GivenUpto l.table l.party l.terms l.initial.self l.self l.term-index × Knows l.table l.self × Orderly l.table l.party l.self
+invariant-loop-term l = record {
+  given : GivenUpto l.view.table.now l.view.party.now l.terms l.initial.self l.self l.term-index;
+  knows : Knows l.view.table.now l.self;
+  orderly : Orderly l.view.table.now l.view.party.now l.self;
+}

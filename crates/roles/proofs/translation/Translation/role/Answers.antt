@@ -1,37 +1,33 @@
-use Rattle.std.proofs.Common.{◌<◌, map, length, Ok, vec_items, sym, ap, ◌∙◌, arith}
+use Rattle.std.proofs.Common.{map, length, Ok, vec_items, sym, ap, ◌∙◌, arith}
 use mathlib.Core.Path.{subst⁻¹}
 use Rattle.std.proofs.lemmas.List.{length_push}
 use Rattle.std.proofs.lemmas.Result.{err_from_is_err_and}
 use Rattle.roles.specs.AllRoles.{AllFit}
-use Rattle.roles.specs.declared.role.Role.{Role}
 use Rattle.roles.specs.Players.{player_of}
 use Rattle.roles.proofs.AllFit.{all_fit_push}
-use Rattle.roles.proofs.Placing.{place, placed_here, placed_later, placed_nowhere, role_there, no_room, not_begun, one_more, placed_last, begun_name}
+use Rattle.roles.proofs.Placing.{place, placed_here, placed_nowhere, role_there, no_room, not_begun, one_more, placed_last, begun_name}
 use Rattle.roles.proofs.translation.Translation.role.Goals as goal
 
-pub returns-then-index-number : goal.returns-then-index-number
-returns-then-index-number c =
+pub returns-in-Some : goal.returns-in-Some
+returns-in-Some c =
     let t = c.args.self.now.declarations.terms in
     let rs = vec_items c.args.self.now.roles in
-    let l = c.len-place.ensures in
-    let h : c.loop-earlier.earlier < length rs = let x = c.loop-earlier-test.true in omega arith in
-    let k = placed_here t c.args.number rs c.loop-earlier.earlier c.loop-earlier.invariant c.index.result.now h (ap (λ (r : Role). r.name) (sym c.index.ensures) ∙ c.if-index-number.true) in record {
-      placed = (c.requires, h, omega arith);
-      finds = λ U m. (record { scope = U; is = role_there t c.args.number c.args.input.limits c.args.input.text.now U c.args.name rs (omega arith); means = m }, k, h);
+    let k = placed_here t c.args.number rs c.in-Some.earlier c.in-Some.ensures in record {
+      placed = (c.requires, k.1, omega arith);
+      finds = λ U m. (record { scope = U; is = role_there t c.args.number c.args.input.limits c.args.input.text.now U c.args.name rs (omega (arith, k.0, k.1)); means = m }, k.0, k.1);
     }
 
-pub returns-then-place-min : goal.returns-then-place-min
-returns-then-place-min c = record {
+pub returns-then-place-most_roles : goal.returns-then-place-most_roles
+returns-then-place-most_roles c = record {
   placed = tt;
   finds = λ U m.
       let t = c.args.self.now.declarations.terms in
       let rs = vec_items c.args.self.now.roles in
       let l = c.len-place.ensures in
-      let x = c.loop-earlier-test.false in
-      let f = c.if-place-min.true in
-      let e = c.min.ensures in
+      let f = c.if-place-most_roles.true in
+      let e = c.most_roles.ensures in
       no_room t c.args.number c.args.input.limits c.args.input.text.now U c.args.name rs
-      (placed_nowhere t c.args.number rs c.loop-earlier.earlier c.loop-earlier.invariant (omega arith)) (omega arith);
+      (placed_nowhere t c.args.number rs c.in_default.ensures) (omega arith);
 }
 
 pub returns-in_err-role : goal.returns-in_err-role
@@ -39,24 +35,16 @@ returns-in_err-role c =
     let t = c.args.self.now.declarations.terms in
     let rs = vec_items c.args.self.now.roles in
     let l = c.len-place.ensures in
-    let x = c.loop-earlier-test.false in
-    let f = c.if-place-min.false in
-    let e = c.min.ensures in
+    let f = c.if-place-most_roles.false in
+    let e = c.most_roles.ensures in
     let p = err_from_is_err_and c.from_residual.result c.from_residual.ensures.1 in record {
       placed = rw p.1 tt;
       finds = λ U m.
           rw (p.1, p.2)
           (not_begun t c.args.number c.args.input.limits c.args.input.text.now U c.args.name rs
-          (placed_nowhere t c.args.number rs c.loop-earlier.earlier c.loop-earlier.invariant (omega arith)) (omega arith)
+          (placed_nowhere t c.args.number rs c.in_default.ensures) (omega arith)
           c.in_err-role.field-0.0 (c.in_err-role.ensures.starts U m));
     }
-
-pub loop-earlier-preserved : goal.loop-earlier-preserved
-loop-earlier-preserved c =
-    let l = c.len-place.ensures in
-    let x = c.loop-earlier-test.true in
-    placed_later c.args.self.now.declarations.terms c.args.number (vec_items c.args.self.now.roles) c.loop-earlier.earlier c.loop-earlier.invariant c.index.result.now (omega arith)
-    (λ q. c.if-index-number.false (ap (λ (r : Role). r.name) c.index.ensures ∙ q))
 
 pub returns : goal.returns
 returns c =
@@ -68,10 +56,9 @@ returns c =
     let p = length_push rs r in
     let k = c.args.self.now.roles.ok.0 in
     let n = c.len-place.ensures in
-    let x = c.loop-earlier-test.false in
-    let f = c.if-place-min.false in
-    let g = c.min.ensures in
-    let h = placed_nowhere t c.args.number rs c.loop-earlier.earlier c.loop-earlier.invariant (omega arith) in record {
+    let f = c.if-place-most_roles.false in
+    let g = c.most_roles.ensures in
+    let h = placed_nowhere t c.args.number rs c.in_default.ensures in record {
       placed = (subst⁻¹ (AllFit t) e (all_fit_push t rs r c.requires c.in_ok-role.ensures.fits), omega arith, omega arith);
       finds = λ U m.
           let q = c.in_ok-role.ensures.starts U m in (

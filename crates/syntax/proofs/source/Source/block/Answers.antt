@@ -1,19 +1,27 @@
-use Rattle.std.proofs.Common.{vec_items}
+use Rattle.std.proofs.Common.{map, refl, ◌∙◌, arith}
 use Rattle.std.proofs.lemmas.Result.{err_from_is_err_and}
-use Rattle.syntax.specs.Seeing.{Lengthens}
-use Rattle.syntax.proofs.Shaping as shaping
+use Rattle.text.specs.Nodes.{tree_of, trees_of}
+use Rattle.syntax.specs.Symbols.{found}
+use Rattle.syntax.specs.Shape.{at_most, lines}
+use Rattle.syntax.specs.Views.{line_of}
+use Rattle.syntax.proofs.Forms.{formed, formed_fault, gives_path}
+use Rattle.syntax.proofs.Parts.{at_most_so, at_most_not}
 use Rattle.syntax.proofs.source.Source.block.Goals as goal
 
 pub returns-in_err-bracket : goal.returns-in_err-bracket
+unfolding found
 returns-in_err-bracket c =
     let p = err_from_is_err_and c.from_residual.result c.from_residual.ensures.1 in
-    rw (p.1, p.2) (λ t s. shaping.block_fault c.args.self.text.now (vec_items c.args.self.nodes.now.rows) t c.in_err-bracket.field-0.0 (c.in_err-bracket.ensures t s))
+    rw (p.1, p.2) (λ _. formed_fault c.args.self.text.now "block" (λ at ts. at_most 64 at ts (lines c.args.self.text.now ts)) (tree_of c.args.node.now) c.in_err-bracket.field-0.0 (c.in_err-bracket.ensures "block" refl))
 
-pub returns-in_default : goal.returns-in_default
-returns-in_default c = λ t s. shaping.block_other c.args.self.text.now (vec_items c.args.self.nodes.now.rows) t c.in_ok-bracket.bracket (c.in_ok-bracket.ensures t s) c.in_default.not-Block
-
-pub returns-then-count-gt-MOST_LINES : goal.returns-then-count-gt-MOST_LINES
-returns-then-count-gt-MOST_LINES c = λ t s. shaping.block_many c.args.self.text.now (vec_items c.args.self.nodes.now.rows) t c.in_ok-bracket.bracket (c.in_ok-bracket.ensures t s) c.in-Block.is c.count.result c.count.ensures c.if-count-gt-MOST_LINES.true
+pub returns-then-bracket-gt-MOST_LINES : goal.returns-then-bracket-gt-MOST_LINES
+unfolding found
+returns-then-bracket-gt-MOST_LINES c =
+    let b = c.in_ok-bracket.bracket in
+    λ _. formed c.args.self.text.now "block" (λ at ts. at_most 64 at ts (lines c.args.self.text.now ts)) (tree_of c.args.node.now) b (c.in_ok-bracket.ensures "block" refl) ∙ at_most_not b.at 64 b.parts.now (lines c.args.self.text.now (trees_of b.parts.now)) (omega arith)
 
 pub returns : goal.returns
-returns c = λ t s. shaping.block_so c.args.self.text.now (vec_items c.args.self.nodes.now.rows) t c.in_ok-bracket.bracket (λ ls. Lengthens c.args.spec.now ls c.lines.new.spec) c.lines.result (c.in_ok-bracket.ensures t s) c.in-Block.is c.count.result c.count.ensures c.if-count-gt-MOST_LINES.false c.lines.ensures
+unfolding found
+returns c =
+    let b = c.in_ok-bracket.bracket in
+    gives_path (λ ls. map line_of ls.items) c.lines.result (formed c.args.self.text.now "block" (λ at ts. at_most 64 at ts (lines c.args.self.text.now ts)) (tree_of c.args.node.now) b (c.in_ok-bracket.ensures "block" refl) ∙ at_most_so b.at 64 b.parts.now (lines c.args.self.text.now (trees_of b.parts.now)) (omega arith)) c.lines.ensures

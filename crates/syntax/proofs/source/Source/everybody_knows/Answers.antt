@@ -1,29 +1,6 @@
-use Rattle.std.proofs.Common.{◌≡◌, [], ◌∷◌, ◌++◌, length, Ok, Err, vec_items, sym, refl, ap, ◌∙◌, append-nil, arith}
-use Rattle.std.proofs.lemmas.Result.{err_from_is_err_and}
-use Rattle.syntax.specs.Seeing.{Declares}
-use Rattle.syntax.specs.Shape.{and_then, term}
-use Rattle.syntax.specs.Specs.{everybody}
-use Rattle.syntax.specs.declared.spec.Declaration.TheVariants as rows
-use Rattle.syntax.proofs.Answering.{refuses_then}
-use Rattle.syntax.proofs.Growing as growing
-use Rattle.syntax.proofs.Counts as counts
+use Rattle.std.proofs.Common.{arith}
+use Rattle.syntax.proofs.Parts.{not_one}
 use Rattle.syntax.proofs.source.Source.everybody_knows.Goals as goal
 
-pub returns-in_err-counted : goal.returns-in_err-counted
-returns-in_err-counted c =
-    let p = err_from_is_err_and c.from_residual.result c.from_residual.ensures.1 in
-    rw (p.1, p.2) (λ ts f. counts.one_miscounted c.in_err-counted.field-0.0 c.args.bracket.at (λ k. and_then (term c.args.self.text.now k) (λ u. Ok (everybody u))) ts (c.in_err-counted.ensures ts f))
-
-pub returns-in_err-term : goal.returns-in_err-term
-returns-in_err-term c =
-    let p = err_from_is_err_and c.from_residual-in_err-term.result c.from_residual-in_err-term.ensures.1 in
-    rw (p.1, p.2) (λ ts f. counts.one_answered c.args.self.text.now (vec_items c.args.self.nodes.now.rows) c.args.bracket.parts c.args.bracket.at tt (λ d. Unit {0}) (Err c.in_err-term.field-0.0) (λ k. and_then (term c.args.self.text.now k) (λ u. Ok (everybody u)))
-    (λ t s. refuses_then c.in_err-term.field-0.0 (term c.args.self.text.now t) (λ u. Ok (everybody u)) (c.in_err-term.ensures t s)) ts f (c.in_ok-counted.ensures ts f))
-
-pub returns : goal.returns
-returns c = λ ts f.
-    let n = c.args.spec.now.terms.ok.0 in
-    let q : c.len-term.result ≡ length (vec_items c.args.spec.now.terms) = omega arith in
-    counts.one_answered c.args.self.text.now (vec_items c.args.self.nodes.now.rows) c.args.bracket.parts c.args.bracket.at tt (λ d. Declares c.args.spec.now (d ∷ []) (record { declarations = c.push.new.self; parameters = c.args.spec.now.parameters; lines = c.args.spec.now.lines; terms = c.term.new.terms })) (Ok tt) (λ k. and_then (term c.args.self.text.now k) (λ u. Ok (everybody u)))
-    (λ t s. let w = c.in_ok-term.ensures t s in (everybody w.0, ap (λ o. and_then o (λ u. Ok (everybody u))) w.1, growing.declares_one c.args.spec.now (record { declarations = c.push.new.self; parameters = c.args.spec.now.parameters; lines = c.args.spec.now.lines; terms = c.term.new.terms }) (everybody w.0) (c.in_ok-push.ensures.items ∙ ap (λ k. vec_items c.args.spec.now.declarations ++ (rows.EverybodyKnows k ∷ [])) q) (sym (append-nil _)) refl w.2))
-    ts f (c.in_ok-counted.ensures ts f)
+pub returns-in_default : goal.returns-in_default
+returns-in_default c = λ _. not_one c.args.at _ c.args.parts.now (λ e. grind arith)

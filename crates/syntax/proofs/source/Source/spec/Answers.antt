@@ -1,21 +1,58 @@
-use Rattle.std.proofs.Common.{vec_items}
+use Rattle.std.proofs.Common.{◌≡◌, ℕ, List, length, get_or, Ok, refl, ◌∙◌, arith}
 use Rattle.std.proofs.lemmas.Result.{err_from_is_err_and}
-use Rattle.syntax.proofs.Shaping as shaping
-use Rattle.syntax.proofs.Trunks.{table_stands}
+use Rattle.text.specs.declared.node.Node.{Node}
+use Rattle.text.specs.Nodes.{tree_of}
+use Rattle.text.specs.Trees.{Tree}
+use Rattle.syntax.specs.declared.source.Bracket.{Bracket}
+use Rattle.syntax.specs.declared.symbol.Symbol.TheVariants as symbols
+use Rattle.syntax.specs.Symbols.{found}
+use Rattle.syntax.specs.Seeing.{Formed}
+use Rattle.syntax.specs.Shape.{and_then, five_parts, declare, block, section, specification, shape}
+use Rattle.syntax.proofs.Forms.{formed, formed_fault}
+use Rattle.syntax.proofs.Parts.{not_five, five_so}
 use Rattle.syntax.proofs.source.Source.spec.Goals as goal
 
-pub returns-in_err-root : goal.returns-in_err-root
-returns-in_err-root c =
+so : (text : List ℕ) (t : Tree) (f : Bracket) → Formed text symbols.Spec t (Ok f) → (d b s a c : Node) → length f.parts.now ≡ 5 → d ≡ get_or f.parts.now 0 d → b ≡ get_or f.parts.now 1 b → s ≡ get_or f.parts.now 2 s → a ≡ get_or f.parts.now 3 a → c ≡ get_or f.parts.now 4 c
+    → shape text t ≡ and_then (declare text (tree_of d)) (λ ds. and_then (block text (tree_of b)) (λ ls. and_then (section text "sessions" (tree_of s)) (λ _. and_then (section text "assume" (tree_of a)) (λ _. and_then (section text "claim" (tree_of c)) (λ _. Ok (record { declarations = ds; lines = ls }))))))
+unfolding found specification
+so text t f h d b s a c l p q r u v = formed text "spec" (λ at ts. five_parts at ts (specification text)) t f (h "spec" refl) ∙ five_so f.at (specification text) f.parts.now d b s a c l p q r u v
+
+pub returns-in_err-at : goal.returns-in_err-at
+unfolding found
+returns-in_err-at c =
     let p = err_from_is_err_and c.from_residual.result c.from_residual.ensures.1 in
-    rw (p.1, p.2) (λ t p'. shaping.shape_fault c.args.self.text.now (vec_items c.args.self.nodes.now.rows) t c.in_err-root.field-0.0 (c.in_err-root.ensures t (table_stands (vec_items c.args.self.nodes.now.rows) t p')))
+    rw (p.1, p.2) (λ _. formed_fault c.args.self.text.now "spec" (λ at ts. five_parts at ts (specification c.args.self.text.now)) (tree_of c.args.root.now) c.in_err-at.field-0.0 (c.in_err-at.ensures "spec" refl))
 
 pub returns-in_default : goal.returns-in_default
-returns-in_default c = λ t p'. shaping.shape_other c.args.self.text.now (vec_items c.args.self.nodes.now.rows) t c.in_ok-root.root (c.in_ok-root.ensures t (table_stands (vec_items c.args.self.nodes.now.rows) t p')) c.in_default.not-Spec
+unfolding found
+returns-in_default c = λ _. formed c.args.self.text.now "spec" (λ at ts. five_parts at ts (specification c.args.self.text.now)) (tree_of c.args.root.now) c.in_ok-at.field-0 (c.in_ok-at.ensures "spec" refl) ∙ not_five c.in_ok-at.field-0.at (specification c.args.self.text.now) c.in_ok-at.field-0.parts.now (λ e. grind arith)
 
-pub returns-in_err-counted : goal.returns-in_err-counted
-returns-in_err-counted c =
-    let p = err_from_is_err_and c.from_residual-in_err-counted.result c.from_residual-in_err-counted.ensures.1 in
-    rw (p.1, p.2) (λ t p'. shaping.shape_miscounted c.args.self.text.now (vec_items c.args.self.nodes.now.rows) t c.in_ok-root.root (c.in_ok-root.ensures t (table_stands (vec_items c.args.self.nodes.now.rows) t p')) c.in-Spec.is c.in_err-counted.field-0.0 c.in_err-counted.ensures)
+pub returns-in_err-declarations : goal.returns-in_err-declarations
+returns-in_err-declarations c =
+    let p = err_from_is_err_and c.from_residual-in_err-declarations.result c.from_residual-in_err-declarations.ensures.1 in
+    rw (p.1, p.2) (λ n. so c.args.self.text.now (tree_of c.args.root.now) c.in_ok-at.field-0 c.in_ok-at.ensures c.declare-item.result c.block-item.result c.sessions-item.result c.assume-item.result c.claim-item.result (omega arith) c.declare-item.is c.block-item.is c.sessions-item.is c.assume-item.is c.claim-item.is ∙ rw (c.in_err-declarations.ensures n) refl)
+
+pub returns-in_err-lines : goal.returns-in_err-lines
+returns-in_err-lines c =
+    let p = err_from_is_err_and c.from_residual-in_err-lines.result c.from_residual-in_err-lines.ensures.1 in
+    rw (p.1, p.2) (λ n. so c.args.self.text.now (tree_of c.args.root.now) c.in_ok-at.field-0 c.in_ok-at.ensures c.declare-item.result c.block-item.result c.sessions-item.result c.assume-item.result c.claim-item.result (omega arith) c.declare-item.is c.block-item.is c.sessions-item.is c.assume-item.is c.claim-item.is ∙ rw (c.in_ok-declarations.ensures, c.in_err-lines.ensures n) refl)
+
+pub returns-in_err-section : goal.returns-in_err-section
+returns-in_err-section c =
+    let p = err_from_is_err_and c.from_residual-in_err-section.result c.from_residual-in_err-section.ensures.1 in
+    rw (p.1, p.2) (λ n. so c.args.self.text.now (tree_of c.args.root.now) c.in_ok-at.field-0 c.in_ok-at.ensures c.declare-item.result c.block-item.result c.sessions-item.result c.assume-item.result c.claim-item.result (omega arith) c.declare-item.is c.block-item.is c.sessions-item.is c.assume-item.is c.claim-item.is ∙ rw (c.in_ok-declarations.ensures, c.in_ok-lines.ensures, ← c.in_err-section.ensures) refl)
+
+pub returns-in_err-section-2 : goal.returns-in_err-section-2
+returns-in_err-section-2 c =
+    let p = err_from_is_err_and c.from_residual-in_err-section-2.result c.from_residual-in_err-section-2.ensures.1 in
+    rw (p.1, p.2) (λ n. so c.args.self.text.now (tree_of c.args.root.now) c.in_ok-at.field-0 c.in_ok-at.ensures c.declare-item.result c.block-item.result c.sessions-item.result c.assume-item.result c.claim-item.result (omega arith) c.declare-item.is c.block-item.is c.sessions-item.is c.assume-item.is c.claim-item.is ∙ rw (c.in_ok-declarations.ensures, c.in_ok-lines.ensures, ← c.in_ok-section.ensures, ← c.in_err-section-2.ensures) refl)
+
+pub returns-in_err-section-3 : goal.returns-in_err-section-3
+returns-in_err-section-3 c =
+    let p = err_from_is_err_and c.from_residual-in_err-section-3.result c.from_residual-in_err-section-3.ensures.1 in
+    rw (p.1, p.2) (λ n. so c.args.self.text.now (tree_of c.args.root.now) c.in_ok-at.field-0 c.in_ok-at.ensures c.declare-item.result c.block-item.result c.sessions-item.result c.assume-item.result c.claim-item.result (omega arith) c.declare-item.is c.block-item.is c.sessions-item.is c.assume-item.is c.claim-item.is ∙ rw (c.in_ok-declarations.ensures, c.in_ok-lines.ensures, ← c.in_ok-section.ensures, ← c.in_ok-section-2.ensures, ← c.in_err-section-3.ensures) refl)
 
 pub returns : goal.returns
-returns c = λ t p'. shaping.shape_so c.args.self.text.now (vec_items c.args.self.nodes.now.rows) t c.in_ok-root.root (c.in_ok-root.ensures t (table_stands (vec_items c.args.self.nodes.now.rows) t p')) c.in-Spec.is tt c.in_ok-counted.ensures c.sections.result c.sections.ensures
+returns c =
+    so c.args.self.text.now (tree_of c.args.root.now) c.in_ok-at.field-0 c.in_ok-at.ensures c.declare-item.result c.block-item.result c.sessions-item.result c.assume-item.result c.claim-item.result (omega arith) c.declare-item.is c.block-item.is c.sessions-item.is c.assume-item.is c.claim-item.is
+    ∙ rw (c.in_ok-declarations.ensures, c.in_ok-lines.ensures, ← c.in_ok-section.ensures, ← c.in_ok-section-2.ensures, ← c.in_ok-section-3.ensures) refl

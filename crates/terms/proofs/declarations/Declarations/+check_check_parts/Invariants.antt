@@ -1,13 +1,10 @@
-use Rattle.std.proofs.Common.{◌+◌, ◌-◌, ◌*◌, ◌≤◌, length}
-use Rattle.terms.proofs.Checking.{Going}
+use Rattle.std.proofs.Common.{◌≡◌, drop}
+use Rattle.syntax.specs.Views.{terms_of}
+use Rattle.terms.specs.Scope.{Scope}
+use Rattle.terms.specs.Typing.{typed_all}
+use Rattle.terms.specs.Meanings.{Means}
 use Rattle.terms.proofs.declarations.Declarations.+check_check_parts.Given as goal
 
--- what is behind a node, and behind the first of some nodes
-abbrev pub decreases-check : goal.decreases-check
-decreases-check l = 2 * (length l.terms.now - l.term)
-
-abbrev pub decreases-check_parts : goal.decreases-check_parts
-decreases-check_parts l = 2 * (length l.terms.now - l.first) + 1
-
-abbrev pub invariant-check_parts-loop-number : goal.invariant-check_parts-loop-number
-invariant-check_parts-loop-number l = (l.first ≤ l.next) × Going l.text l.self l.terms l.first l.count l.function l.number l.next
+abbrev pub invariant-check_parts-loop-place : goal.invariant-check_parts-loop-place
+invariant-check_parts-loop-place l =
+    (S : Scope) → Means l.self S → typed_all l.text S (terms_of l.parts) l.wanted ≡ typed_all l.text S (terms_of (drop l.place l.parts)) (drop l.place l.wanted)

@@ -1,34 +1,33 @@
-use Rattle.std.proofs.Common.{◌≡◌, ◌+◌, ◌++◌, drop, vec_items, sym, refl, ap, ◌∙◌, rules}
-use mathlib.Core.Path.{subst⁻¹}
-use Rattle.terms.specs.declared.term.TermRow.TheVariants.{Name}
+use Rattle.std.proofs.Common.{drop, cond, Some, None, vec_items, sym, ap, ◌∙◌, rules}
+use Rattle.std.specs.List.{filter_map}
+use Rattle.std.proofs.lemmas.List.{take_all}
 use Rattle.terms.specs.Starting.{made_among}
-use Rattle.terms.proofs.Collecting.{row_passes, row_number, made_rows, made_same, gather_more, gather_not, gather_end}
+use Rattle.terms.proofs.Collecting.{made_name, filter_map_more, filter_map_not, made_same}
 use Rattle.terms.proofs.declarations.Declarations.made_since.Goals as goal
-use Rattle.terms.proofs.declarations.Declarations.made_since.Goals.{in-Name+then-may_be_made+in_ok-push, in-Name+else-may_be_made, in_default}
+use Rattle.terms.proofs.declarations.Declarations.made_since.Goals.{in-Name+then-may_be_made+in_ok-push, in_default, in_default-via-in-Compound-1, in_default-via-in-Name+else-may_be_made}
 
-pub loop-term-init : goal.loop-term-init
-loop-term-init c = ap (λ xs. xs ++ (made_rows (vec_items c.args.self.now.names) (drop c.args.before (vec_items c.args.self.now.terms.rows)))) c.new-made.ensures.items
-
-pub loop-term-preserved : goal.loop-term-preserved
-loop-term-preserved c =
+pub loop-row-preserved : goal.loop-row-preserved
+loop-row-preserved c =
+    let h = made_name (vec_items c.args.self.now.names) in
+    let rows = c.since-row-items.result.now in
+    let i = c.loop-row.row-index in
     elim c.match-row.branch [
       | in-Name+then-may_be_made+in_ok-push w ↦
-          let v = w.in-Name.ensures.value in
-          subst⁻¹ (λ v. (vec_items v) ++ made_rows (vec_items c.args.self.now.names) (drop (c.loop-term.term + 1) (vec_items c.args.self.now.terms.rows)) ≡ made_rows (vec_items c.args.self.now.names) (drop c.args.before (vec_items c.args.self.now.terms.rows))) w.made-is
-          (subst⁻¹ (λ xs. xs ++ made_rows (vec_items c.args.self.now.names) (drop (c.loop-term.term + 1) (vec_items c.args.self.now.terms.rows)) ≡ made_rows (vec_items c.args.self.now.names) (drop c.args.before (vec_items c.args.self.now.terms.rows))) w.in_ok-push.ensures.items
-          (gather_more (made_rows (vec_items c.args.self.now.names)) (row_passes (vec_items c.args.self.now.names)) row_number (λ r rs. refl) (vec_items c.args.self.now.terms.rows) c.loop-term.term (vec_items c.loop-term.made) (made_rows (vec_items c.args.self.now.names) (drop c.args.before (vec_items c.args.self.now.terms.rows))) c.loop-term.invariant (Name 0) w.in-Name.name (search rules) (ap (row_passes (vec_items c.args.self.now.names)) (sym v) ∙ sym w.may_be_made.ensures ∙ w.if-may_be_made.true) (ap row_number v)))
-      | in-Name+else-may_be_made w ↦
-          subst⁻¹ (λ v. (vec_items v) ++ made_rows (vec_items c.args.self.now.names) (drop (c.loop-term.term + 1) (vec_items c.args.self.now.terms.rows)) ≡ made_rows (vec_items c.args.self.now.names) (drop c.args.before (vec_items c.args.self.now.terms.rows))) w.made-is
-          (gather_not (made_rows (vec_items c.args.self.now.names)) (row_passes (vec_items c.args.self.now.names)) row_number (λ r rs. refl) (vec_items c.args.self.now.terms.rows) c.loop-term.term (vec_items c.loop-term.made) (made_rows (vec_items c.args.self.now.names) (drop c.args.before (vec_items c.args.self.now.terms.rows))) c.loop-term.invariant (Name 0) (search rules) (ap (row_passes (vec_items c.args.self.now.names)) (sym w.in-Name.ensures.value) ∙ sym w.may_be_made.ensures ∙ w.if-may_be_made.false))
+          ap vec_items w.made-is ∙ w.in_ok-push.ensures.items
+          ∙ filter_map_more h rows i c.row-item.result c.loop-row-test.true c.row-item.is (vec_items c.loop-row.made) c.loop-row.invariant w.in-Name.name
+          (ap h w.in-Name.is ∙ ap (λ b. cond b (Some w.in-Name.name) None) (sym w.may_be_made.ensures ∙ w.if-may_be_made.true))
       | in_default w ↦
-          subst⁻¹ (λ v. (vec_items v) ++ made_rows (vec_items c.args.self.now.names) (drop (c.loop-term.term + 1) (vec_items c.args.self.now.terms.rows)) ≡ made_rows (vec_items c.args.self.now.names) (drop c.args.before (vec_items c.args.self.now.terms.rows))) w.made-is
-          (gather_not (made_rows (vec_items c.args.self.now.names)) (row_passes (vec_items c.args.self.now.names)) row_number (λ r rs. refl) (vec_items c.args.self.now.terms.rows) c.loop-term.term (vec_items c.loop-term.made) (made_rows (vec_items c.args.self.now.names) (drop c.args.before (vec_items c.args.self.now.terms.rows))) c.loop-term.invariant (Name 0) (search rules) (ap (row_passes (vec_items c.args.self.now.names)) (sym w.in_default.ensures.value)))
+          ap vec_items w.made-is
+          ∙ filter_map_not h rows i c.row-item.result c.loop-row-test.true c.row-item.is (vec_items c.loop-row.made) c.loop-row.invariant
+          (elim w.in_default.branch [
+            | in_default-via-in-Compound-1 w' ↦ search rules
+            | in_default-via-in-Name+else-may_be_made w' ↦ ap h w'.in-Name.is ∙ ap (λ b. cond b (Some w'.in-Name.name) None) (sym w'.may_be_made.ensures ∙ w'.if-may_be_made.false)
+          ])
     ]
 
-pub returns : goal.returns
-returns c = record {
-  made = λ S m.
-      gather_end (made_rows (vec_items c.args.self.now.names)) (vec_items c.args.self.now.terms.rows) c.loop-term.term (vec_items c.loop-term.made) (made_rows (vec_items c.args.self.now.names) (drop c.args.before (vec_items c.args.self.now.terms.rows))) refl c.loop-term.invariant (search rules)
-      ∙ made_same c.args.self.now.terms S.terms m.terms (vec_items c.args.self.now.names) c.args.before ∙ ap (λ ns. made_among ns (drop c.args.before S.terms)) m.names;
-  refused = tt;
-}
+pub returns-clause-made : goal.returns-clause-made
+returns-clause-made c = λ S m.
+    c.loop-row.invariant
+    ∙ ap (filter_map (made_name (vec_items c.args.self.now.names))) (take_all c.loop-row.row-index c.since-row-items.result.now c.loop-row-test.false ∙ c.since-row-items.ensures)
+    ∙ made_same c.args.self.now.terms S.terms m.terms (vec_items c.args.self.now.names) c.args.before
+    ∙ ap (λ ns. made_among ns (drop c.args.before S.terms)) m.names

@@ -1,7 +1,7 @@
-use Rattle.std.proofs.Common.{◌≡◌, ◌++◌, drop, vec_items}
-use Rattle.terms.proofs.Collecting.{made_rows}
+use Rattle.std.proofs.Common.{◌≡◌, take, vec_items}
+use Rattle.std.specs.List.{filter_map}
+use Rattle.terms.proofs.Collecting.{made_name}
 use Rattle.terms.proofs.declarations.Declarations.made_since.Given as goal
 
-abbrev pub invariant-loop-term : goal.invariant-loop-term
-invariant-loop-term l =
-    vec_items l.made ++ made_rows (vec_items l.self.names) (drop l.term (vec_items l.self.terms.rows)) ≡ made_rows (vec_items l.self.names) (drop l.before (vec_items l.self.terms.rows))
+abbrev pub invariant-loop-row : goal.invariant-loop-row
+invariant-loop-row l = vec_items l.made ≡ filter_map (made_name (vec_items l.self.names)) (take l.row-index l.row-items)

@@ -1,20 +1,19 @@
-use Rattle.std.proofs.Common.{Some, vec_items, ap, ◌∙◌, rules}
-use Rattle.terms.specs.declared.declarations.Meaning.TheVariants.{Function}
-use Rattle.terms.specs.Scope.{bytes}
-use Rattle.terms.proofs.Naming.{meaning_there, meaning_nowhere}
+use Rattle.std.proofs.Common.{◌≡◌, Some, vec_items, sym, ap, ◌∙◌, arith}
+use Rattle.std.specs.Prelude.{option_map, slice_get}
+use Rattle.std.proofs.lemmas.Grind.{common_steps}
+use Rattle.std.proofs.lemmas.Option.{slice_get_read}
+use Rattle.terms.specs.declared.declarations.Declared.{Declared}
+use Rattle.terms.specs.Scope.{declares}
+use Rattle.terms.proofs.Naming.{found_there, found_nowhere}
 use Rattle.terms.proofs.declarations.Declarations.meaning.Goals as goal
 
 pub returns-in_err-number : goal.returns-in_err-number
 returns-in_err-number c =
-    c.from_residual.ensures ∙ meaning_nowhere c.args.text.now (bytes c.args.text.now c.args.name) (vec_items c.args.self.now.names) c.in_err-number.ensures
-
-pub returns-then-number-len : goal.returns-then-number-len
-returns-then-number-len c =
-    let m = meaning_there c.args.text.now (bytes c.args.text.now c.args.name) (vec_items c.args.self.now.names) c.in_ok-number.field-0 (record { name = c.args.name; meaning = Function 0 }) c.in_ok-number.ensures in
-    let h = m.0 in
-    absurd (search rules)
+    let e = found_nowhere (declares c.args.text.now c.args.name) (vec_items c.args.self.now.names) (sym c.find.ensures ∙ c.in_err-number.was) in
+    c.from_residual.ensures ∙ sym (ap (option_map (λ (d : Declared). d.meaning)) e)
 
 pub returns : goal.returns
 returns c =
-    ap (λ x. Some x.meaning) c.index.ensures
-    ∙ (meaning_there c.args.text.now (bytes c.args.text.now c.args.name) (vec_items c.args.self.now.names) c.in_ok-number.field-0 c.index.result.now c.in_ok-number.ensures).1
+    let e = found_there (declares c.args.text.now c.args.name) (vec_items c.args.self.now.names) c.in_ok-number.number (sym c.find.ensures ∙ c.in_ok-number.was) in
+    let n : slice_get (vec_items c.args.self.now.names) c.in_ok-number.number ≡ Some c.in_ok-get.field-0.now = grind (arith, common_steps, slice_get_read) in
+    sym (ap (option_map (λ (d : Declared). d.meaning)) (e ∙ n))

@@ -1,5 +1,7 @@
-use Rattle.terms.proofs.Adding.{UnreadAll}
+use Rattle.std.proofs.Common.{map, drop}
+use Rattle.syntax.specs.Views.{declared_of}
+use Rattle.terms.proofs.Adding.{LeftAll}
 use Rattle.terms.proofs.declarations.Declarations.read.Given as goal
 
 abbrev pub invariant-loop-declaration : goal.invariant-loop-declaration
-invariant-loop-declaration l = UnreadAll l.text l.limits l.spec l.declarations l.declaration-index
+invariant-loop-declaration l = LeftAll l.text l.fn.limits (map declared_of l.declaration-items) l.declarations (map declared_of (drop l.declaration-index l.declaration-items))

@@ -1,10 +1,9 @@
-use Rattle.std.proofs.Common.{◌≡◌, ◌++◌, drop, vec_items}
-use Rattle.terms.specs.Shapes.{AllBelow}
+use Rattle.std.proofs.Common.{◌≡◌, map, take, vec_items}
+use Rattle.std.specs.List.{filter}
+use Rattle.terms.specs.declared.declarations.Start.{Start}
 use Rattle.terms.specs.Terms.{size}
-use Rattle.terms.proofs.Collecting.{starting}
+use Rattle.terms.proofs.Collecting.{starts_test}
 use Rattle.terms.proofs.declarations.Declarations.starting_terms.Given as goal
 
 abbrev pub invariant-loop-start : goal.invariant-loop-start
-invariant-loop-start l =
-    AllBelow (size l.self.terms) (vec_items l.terms)
-    × (vec_items l.terms ++ starting l.name (size l.self.terms) (drop l.start-index l.start-items) ≡ starting l.name (size l.self.terms) l.start-items)
+invariant-loop-start l = vec_items l.terms ≡ map (λ (s : Start). s.term) (filter (starts_test l.name (size l.self.terms)) (take l.start-index l.start-items))

@@ -1,16 +1,15 @@
-use Rattle.std.proofs.Common.{sym, arith}
-use Rattle.text.specs.Bytes.{takes}
-use Rattle.text.proofs.Spans.{span_pass, span_stop, span_end}
+use Rattle.std.proofs.Common.{ℕ, Bool, ◌+◌, drop, ap, ◌∙◌, sym, rules, tests}
+use Rattle.std.proofs.lemmas.Iterator.{YieldsList-from_slice}
+use Rattle.std.proofs.lemmas.Iterator.Consumers.{count_from_yields_List}
+use Rattle.std.proofs.lemmas.Iterator.Search.{YieldsList-from_take_while}
+use Rattle.std.proofs.lemmas.List.Folds.{length-prefix_len}
+use Rattle.text.specs.Bytes.{class, takes}
+use Rattle.text.proofs.Spans.{rest_from, span_prefix}
 use Rattle.text.proofs.class.Run.end.Goals as goal
 
-pub loop-i-preserved : goal.loop-i-preserved
-loop-i-preserved c =
-    let h = span_pass (takes c.args.self) c.args.text.now c.loop-i.i c.loop-i-test.true (sym c.if-has.ensures) in omega arith
-
-pub returns-else-has : goal.returns-else-has
-returns-else-has c =
-    let h = span_stop (takes c.args.self) c.args.text.now c.loop-i.i c.loop-i-test.true (sym c.if-has.ensures) in omega arith
-
-pub returns-after-loop-i : goal.returns-after-loop-i
-returns-after-loop-i c =
-    let h = span_end (takes c.args.self) c.args.text.now c.loop-i.i c.loop-i-test.false in omega arith
+pub returns : goal.returns
+returns c =
+    let has : ℕ → Bool = λ b. takes c.args.self (class b) in
+    let rest = rest_from c.args.text.now c.args.from c.min.result c.min.ensures in
+    let n = count_from_yields_List c.take_while.result _ c.count.ensures.ran (YieldsList-from_take_while _ has (YieldsList-from_slice (drop c.args.from c.args.text.now) (ap (λ x. x.rest.now) c.take_while.ensures.source ∙ c.iter.ensures.rest ∙ rest)) c.take_while.ensures.closure c.take_while.ensures.done (λ x b q k. search (rules, tests))) ∙ length-prefix_len has (drop c.args.from c.args.text.now) in
+    ap (λ k. c.args.from + k) (n ∙ sym (span_prefix (takes c.args.self) (drop c.args.from c.args.text.now)))
