@@ -3,3 +3,4 @@ pub mod Filling
 pub mod Stepping
 pub mod Passing
 pub mod CheckLaw
+pub mod Printing

@@ -1,5 +1,5 @@
 -- The text of a program's rows.
-use Rattle.std.specs.Prelude.{ℕ, List, [], ◌∷◌, ◌++◌, codes, IsAscii, decimal, slice_index_or}
+use Rattle.std.specs.Prelude.{ℕ, List, [], ◌∷◌, ◌++◌, codes, IsAscii, encode_utf8_all, decimal, slice_index_or}
 use Rattle.program.specs.declared.action.Action.{Action}
 use Rattle.program.specs.declared.action.Action.TheVariants.{Give, New, Hear, Say, Same, Crypt, Tuple, Apply, OpenCrypt, OpenTuple, OpenApply}
 use Rattle.program.specs.declared.action.Row.{Row}
@@ -13,6 +13,10 @@ numbers (n ∷ ns) = 32 ∷ (decimal n ++ numbers ns)
 -- the name of a function by its number
 abbrev pub name : List (List ℕ) → ℕ → List ℕ
 name names f = slice_index_or names f []
+
+-- a name as it is written: each byte as the character of its number, in UTF-8
+abbrev pub written : List ℕ → List ℕ
+written bytes = encode_utf8_all bytes
 
 -- names are ASCII
 abbrev pub Narrow : List (List ℕ) → Type 0

@@ -1,7 +1,7 @@
 // The text of a program: a row to a line, with the line's number, the action and its registers. A function goes by its name, which
 // is a part of a text: so a row is printed by a function that has the names, and no `Display` of its own.
 ghost use Rattle.std.specs.Prelude.{◌≡◌, [], ◌++◌, map, string_bytes, IsAscii, OnOk};
-ghost use Rattle.program.specs.Printed.{numbers, name, action_text, row_text, Narrow};
+ghost use Rattle.program.specs.Printed.{numbers, name, written, action_text, row_text, Narrow};
 
 use crate::action::{Action, Row};
 use std::fmt;
@@ -9,14 +9,15 @@ use std::fmt::Write;
 
 // One row. There is an error only for want of memory.
 pub fn print_row(out: &mut String, row: Row, functions: &[&[u8]]) -> fmt::Result
-    ensures { Narrow (map (λ x. x.now) functions.now) → OnOk result (string_bytes out.new ≡ string_bytes out.old ++ row_text (map (λ x. x.now) functions.now) row) }
+    ensures text { OnOk result (string_bytes out.new ≡ string_bytes out.old ++ row_text (map (λ x. written x.now) functions.now) row) }
+    ensures narrow { Narrow (map (λ x. x.now) functions.now) → OnOk result (string_bytes out.new ≡ string_bytes out.old ++ row_text (map (λ x. x.now) functions.now) row) }
 {
     write!(out, "{}", row.line)?;
     print_action(out, row.action, functions)
 }
 
 fn print_action(out: &mut String, action: Action, functions: &[&[u8]]) -> fmt::Result
-    ensures { Narrow (map (λ x. x.now) functions.now) → OnOk result (string_bytes out.new ≡ string_bytes out.old ++ action_text (map (λ x. x.now) functions.now) action) }
+    ensures { OnOk result (string_bytes out.new ≡ string_bytes out.old ++ action_text (map (λ x. written x.now) functions.now) action) }
 {
     match action {
         Action::Give { target } => print_words(out, " give", &[target]),
@@ -69,7 +70,7 @@ fn print_words(out: &mut String, word: &str, list: &[u16]) -> fmt::Result
 
 // The name of a function, and numbers to the end of the line.
 fn print_call(out: &mut String, functions: &[&[u8]], function: u8, list: &[u16]) -> fmt::Result
-    ensures { Narrow (map (λ x. x.now) functions.now) → OnOk result (string_bytes out.new ≡ string_bytes out.old ++ (name (map (λ x. x.now) functions.now) function ++ numbers list.now)) }
+    ensures { OnOk result (string_bytes out.new ≡ string_bytes out.old ++ (name (map (λ x. written x.now) functions.now) function ++ numbers list.now)) }
 {
     print_name(out, name_of(functions, function))?;
     print_numbers(out, list)
@@ -85,9 +86,10 @@ fn print_numbers(out: &mut String, list: &[u16]) -> fmt::Result
     out.write_str("\n")
 }
 
-// A name is ASCII, so that each byte is a character.
+// Each byte is written as the character of its number. A name that was read is ASCII, so that its characters are its bytes.
 pub fn print_name(out: &mut String, name: &[u8]) -> fmt::Result
-    ensures { IsAscii name.now → OnOk result (string_bytes out.new ≡ string_bytes out.old ++ name.now) }
+    ensures text { OnOk result (string_bytes out.new ≡ string_bytes out.old ++ written name.now) }
+    ensures narrow { IsAscii name.now → OnOk result (string_bytes out.new ≡ string_bytes out.old ++ name.now) }
 {
     for byte in name {
         out.write_char(char::from(*byte))?;

@@ -60,16 +60,6 @@ module _ (t : TermTable) (n : ℕ) where
       go true l f = absurd (omega arith)
       go false l f = ap suc (f (omega arith))
 
-  -- a role that has its place keeps it
-  pub placed_still : (rs more : List Role) → place rs < length rs → place (rs ++ more) ≡ place rs
-  placed_still [] more h = absurd (omega arith)
-  placed_still (x ∷ rs) more h = go (eqb x.name n) h (placed_still rs more)
-    where
-      go : (b : Bool) → cond b zero (suc (place rs)) < suc (length rs) → (place rs < length rs → place (rs ++ more) ≡ place rs)
-          → cond b zero (suc (place (rs ++ more))) ≡ cond b zero (suc (place rs))
-      go true l f = refl
-      go false l f = ap suc (f (omega arith))
-
   module _ (limits : Limits) (text : List ℕ) (U : Scope) (x : Name) (rs : List Role) where
     named : (b : Bool) (p : Player) → name_or p.name (cond b (Err (Limit x.at)) (Ok p)) ≡ p.name
     named true p = refl

@@ -1,4 +1,7 @@
 // From a text to the programs of its roles: the text, the tree's shape, the declarations and the lines, each ended before the next.
+ghost use Rattle.roles.specs.Translating.{translation};
+ghost use Rattle.roles.specs.Staging.{Translates};
+
 use crate::line_fault::LineFault;
 use crate::translation::{Input, Translation};
 use crate::translation_fault::TranslationFault;
@@ -8,11 +11,9 @@ use terms::declarations::Declarations;
 use terms::limits::Limits;
 use text::read_text;
 
-pub fn translate(
-    heap: Global,
-    text: &[u8],
-    limits: Limits,
-) -> Result<Translation, TranslationFault> {
+pub fn translate(heap: Global, text: &[u8], limits: Limits) -> Result<Translation, TranslationFault>
+    ensures answers { Translates (translation limits text.now) result }
+{
     let tree = read_text(heap, text)?;
     let spec = Source { heap, text }.spec(&tree)?;
     let declarations = Declarations::read(heap, text, &spec, limits)?;

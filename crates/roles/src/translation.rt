@@ -1,9 +1,9 @@
 // The lines of a specification: label, roles with their starts, types and terms of the message, sender, receiver.
-ghost use Rattle.std.specs.Prelude.{◌≡◌, ◌<◌, length};
-ghost use Rattle.syntax.specs.Views.{term_of};
+ghost use Rattle.std.specs.Prelude.{◌≡◌, ◌<◌, [], map, length};
+ghost use Rattle.syntax.specs.Views.{term_of, line_of};
 ghost use Rattle.terms.specs.Scope.{Scope};
 ghost use Rattle.terms.specs.Meanings.{Means};
-ghost use Rattle.terms.specs.Narrow.{Narrow};
+ghost use Rattle.terms.specs.Narrow.{Narrow, NarrowLines};
 ghost use Rattle.roles.specs.AllRoles.{AllFit, AllKeep, Placed, place_of};
 ghost use Rattle.roles.specs.Stages as stages;
 ghost use Rattle.roles.specs.Staging.{stage_of, Comes, FindsRole};
@@ -35,6 +35,7 @@ pub struct Translation {
 impl Translation {
     pub(crate) fn lines(&mut self, input: Input, lines: &[Line]) -> Result<(), LineFault>
         requires { AllFit self.old.declarations.terms self.old.roles.items }
+        ensures { (U : Scope) → Means self.old.declarations U → NarrowLines (map line_of lines.now) → Comes (stages.lines input.entry.limits input.entry.text.now [] (map line_of lines.now) (stage_of self.old U)) self.new result }
     {
         for (index, line) in lines.iter().enumerate() {
             fresh_label(input.text, &lines[..index], line.label)?;
@@ -45,7 +46,8 @@ impl Translation {
 
     fn line(&mut self, input: Input, number: usize, line: &Line) -> Result<(), LineFault>
         requires { AllFit self.old.declarations.terms self.old.roles.items }
-        ensures { AllKeep self.new.declarations.terms self.new.roles.items result }
+        ensures keeps { AllKeep self.new.declarations.terms self.new.roles.items result }
+        ensures comes { (U : Scope) → Means self.old.declarations U → Narrow (term_of line.now.message) → Comes (stages.line input.entry.limits input.entry.text.now number (line_of line.now) (stage_of self.old U)) self.new result }
     {
         let sender = self.declarations.principal(input.text, line.sender)?;
         let sender_place = self.role(input, sender, line.sender)?;

@@ -3,12 +3,10 @@ use Rattle.std.proofs.Common.{◌≡◌, ℕ, ◌+◌, ◌<◌, Bool, List, ◌�
 use mathlib.Core.Path.{subst⁻¹}
 use Rattle.std.specs.declared.alloc.Global.{Global}
 use Rattle.std.proofs.lemmas.List.{at_drop_more}
-use Rattle.syntax.specs.declared.spec.Declaration.{Declaration}
 use Rattle.syntax.specs.declared.spec.Name.{Name}
 use Rattle.syntax.specs.declared.symbol.FunctionClass.{FunctionClass}
 use Rattle.syntax.specs.Specs as syntax
 use Rattle.syntax.specs.Specs.{Term}
-use Rattle.syntax.specs.Views.{declared_of}
 use Rattle.terms.specs.declared.declarations.Declarations.{Declarations}
 use Rattle.terms.specs.declared.declarations.Meaning.TheVariants as meaning
 use Rattle.terms.specs.declared.declarations.ValueType.{ValueType}
@@ -59,9 +57,9 @@ module _ (text : List ℕ) (limits : Limits) (d d' : Declarations) (S : Scope) (
           means = means_function text limits d d' S m a c kind ks p;
         })
 
--- the first of the declarations that are left
-pub left_at : (ds : List Declaration) (i : ℕ) (x : Declaration) → i < length ds → x ≡ get_or ds i x → map declared_of (drop i ds) ≡ declared_of x ∷ map declared_of (drop (i + 1) ds)
-left_at ds i x h e = at_drop_more (map declared_of) ds i x h ∙ ap (λ y. declared_of y ∷ map declared_of (drop (i + 1) ds)) (sym e)
+-- the first of the things that are left, by its view
+pub left_at : {A B : Type 0} (view : A → B) (xs : List A) (i : ℕ) (x : A) → i < length xs → x ≡ get_or xs i x → map view (drop i xs) ≡ view x ∷ map view (drop (i + 1) xs)
+left_at view xs i x h e = at_drop_more (map view) xs i x h ∙ ap (λ y. view y ∷ map view (drop (i + 1) xs)) (sym e)
 
 -- what is left of the declarations
 module _ (text : List ℕ) (limits : Limits) where

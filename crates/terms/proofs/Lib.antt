@@ -12,3 +12,14 @@ pub mod Collecting
 pub mod Pushing
 pub mod Declared
 pub mod Adding
+pub mod Steps
+pub mod Leaves
+pub mod Scopes
+pub mod Making
+pub mod DeclaredTerms
+pub mod Standing
+pub mod Below
+pub mod Shaped
+pub mod Declaring
+pub mod Counted
+pub mod CountedScopes

@@ -28,17 +28,17 @@ use Rattle.terms.specs.Reads.{SameNames, Refused, Sayable, SayableAll, Reads}
 use Rattle.terms.specs.Termed.{Termed}
 use Rattle.terms.proofs.Naming.{found_has_place}
 
-then_ok : (a b : Result (Unit {0}) TermFault) → and_then a b ≡ Ok tt → b ≡ Ok tt
+pub then_ok : (a b : Result (Unit {0}) TermFault) → and_then a b ≡ Ok tt → b ≡ Ok tt
 then_ok (Ok x) b e = e
 then_ok (Err f) b e = absurd (cc)
 
-first_ok : (a b : Result (Unit {0}) TermFault) → and_then a b ≡ Ok tt → a ≡ Ok tt
+pub first_ok : (a b : Result (Unit {0}) TermFault) → and_then a b ≡ Ok tt → a ≡ Ok tt
 first_ok (Ok tt) b e = refl
 first_ok (Err f) b e = absurd (cc)
 
 module _ (text : List ℕ) (S : Scope) where
   -- a name that fits some type is declared
-  fits_declared : (at : ℕ) (p : Part) (w : ValueType) → name_fits at (meaning_of text S.names p) w ≡ Ok tt → is_some (number_of text S.names p) ≡ true
+  pub fits_declared : (at : ℕ) (p : Part) (w : ValueType) → name_fits at (meaning_of text S.names p) w ≡ Ok tt → is_some (number_of text S.names p) ≡ true
   fits_declared at p w e = go (find (declares text p) S.names) refl e
     where
       go : (o : Option Declared) → find (declares text p) S.names ≡ o → name_fits at (option_map (λ (d : Declared). d.meaning) o) w ≡ Ok tt → is_some (number_of text S.names p) ≡ true
@@ -46,10 +46,10 @@ module _ (text : List ℕ) (S : Scope) where
       go (Some d) q e = found_has_place (declares text p) S.names d q
 
   -- what is applied is a function, and its arguments are good
-  abbrev GoodApply : Name → (List ValueType → Result (Unit {0}) TermFault) → Option Meaning → Type 0
+  abbrev pub GoodApply : Name → (List ValueType → Result (Unit {0}) TermFault) → Option Meaning → Type 0
   GoodApply n f o = (g : ℕ) × (o ≡ Some (meaning.Function g)) × ((ws : List ValueType) × (f ws ≡ Ok tt))
 
-  good_apply : (at k : ℕ) (w : ValueType) (n : Name) (f : List ValueType → Result (Unit {0}) TermFault) (o : Option Meaning) → applied_fits at k w (applied S.functions n o) f ≡ Ok tt → GoodApply n f o
+  pub good_apply : (at k : ℕ) (w : ValueType) (n : Name) (f : List ValueType → Result (Unit {0}) TermFault) (o : Option Meaning) → applied_fits at k w (applied S.functions n o) f ≡ Ok tt → GoodApply n f o
   good_apply at k w n f None e = absurd (cc)
   good_apply at k w n f (Some (meaning.Value kind shared)) e = absurd (cc)
   good_apply at k w n f (Some (meaning.Function g)) e = (g, refl, go (applied S.functions n (Some (meaning.Function g))) e)

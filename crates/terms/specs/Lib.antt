@@ -15,3 +15,4 @@ pub mod Reads
 pub mod Termed
 pub mod Starting
 pub mod Declares
+pub mod Counts

@@ -1,6 +1,6 @@
 -- Terms as the shape of a tree allows them: a compound has at most eight parts.
 use Rattle.std.specs.Prelude.{◌≤◌, List, [], ◌∷◌}
-use Rattle.syntax.specs.Specs.{Term, name, tuple, crypt, apply, Terms, none, more, count, Declared, value, function, knows, everybody}
+use Rattle.syntax.specs.Specs.{Term, name, tuple, crypt, apply, Terms, none, more, count, Declared, value, function, knows, everybody, Lined}
 
 abbrev mutual
   pub Narrow : Term → Type 0
@@ -23,3 +23,8 @@ NarrowDeclared (everybody t) = Narrow t
 abbrev pub AllNarrow : List Declared → Type 0
 AllNarrow [] = Unit {0}
 AllNarrow (d ∷ ds) = NarrowDeclared d × AllNarrow ds
+
+-- the messages of lines
+abbrev pub NarrowLines : List Lined → Type 0
+NarrowLines [] = Unit {0}
+NarrowLines (l ∷ ls) = Narrow l.message × NarrowLines ls

@@ -11,4 +11,4 @@ returns-in_err-add c =
     let i = c.loop-declaration.declaration-index in
     rw (p.1, p.2, ← c.deref-declaration-items.ensures.value)
     (next_refused c.args.text.now c.args.limits (map declared_of items) c.loop-declaration.declarations c.add.new.self (declared_of c.declaration-item.result) (map declared_of (drop (i + 1) items))
-    (rw (left_at items i c.declaration-item.result c.loop-declaration-test.true c.declaration-item.is) at c.loop-declaration.invariant) c.in_err-add.field-0.0 c.in_err-add.ensures)
+    (rw (left_at declared_of items i c.declaration-item.result c.loop-declaration-test.true c.declaration-item.is) at c.loop-declaration.invariant) c.in_err-add.field-0.0 c.in_err-add.ensures)
