@@ -5,8 +5,8 @@ use mathlib.Core.Path.{subst⁻¹}
 use Rattle.model.specs.Lists.{Every}
 use Rattle.model.specs.Trees.{Tree}
 use Rattle.model.specs.Deduction.{Party}
-use Rattle.model.specs.Roles.{Act, Role, heard, said}
-use Rattle.model.specs.Lives.{Life, starts, hears, says, after_hear, after_say, run}
+use Rattle.model.specs.Roles.{Act, Role}
+use Rattle.model.specs.Lives.{Life, hears, says, after_hear, after_say, run}
 use Rattle.model.specs.Specifications.{Specification, message, Duty, begin, speak, listen, life_on}
 use Rattle.model.specs.Programs.{next_role, Stage, stage, stages_from, line_of, rows_of, Sayable}
 use Rattle.model.proofs.Duties.{IsLine}

@@ -1,75 +1,93 @@
--- A text that is translated, stage by stage: a fault of one is the fault of all, want of memory aside.
-use Rattle.std.proofs.Common.{◌≡◌, ℕ, List, [], map, inl, inr, Ok, Err, Result, sym, refl, ap, ap₂, ◌∙◌}
-use Rattle.text.specs.Trees.{Tree}
-use Rattle.text.specs.Reading.{reading}
-use Rattle.syntax.specs.Shape.{shape}
-use Rattle.syntax.specs.Specs.{Specification}
-use Rattle.terms.specs.declared.fault.DeclarationFault.{DeclarationFault}
-use Rattle.terms.specs.declared.fault.DeclarationFault.TheVariants as declaration
-use Rattle.terms.specs.declared.limits.Limits.{Limits}
-use Rattle.terms.specs.Declares.{Unfit}
-use Rattle.terms.specs.Declaring.{bind, declared}
+-- What comes of accepted lines is what the model says of the specification that they stand for.
+use Rattle.std.proofs.Common.{◌≡◌, ℕ, ◌<◌, List, [], ◌∷◌, ◌++◌, map, length, get_or, Ok, sym, refl, ap, ◌∙◌, arith}
+use mathlib.Core.Path.{subst⁻¹}
+use Rattle.std.proofs.lemmas.Bool.{lt-ltb, cond-true}
+use Rattle.std.proofs.lemmas.List.{get_or-map}
+use Rattle.model.specs.Lists.{Every}
+use Rattle.model.specs.Trees.{Formed}
+use Rattle.model.specs.Specifications.{Specification, message, duties}
+use Rattle.model.specs.CountLaw.{Declared, CountsKept}
+use Rattle.model.specs.Programs.{nobody_yet, Sayable, stages_from, rows_of, Accepted}
+use Rattle.model.proofs.Names.{names_law}
+use Rattle.syntax.specs.Specs as syntax
+use Rattle.syntax.specs.Specs.{Lined}
+use Rattle.terms.specs.Declaring.{declared}
+use Rattle.terms.specs.Numbering.{tree}
 use Rattle.terms.specs.Scope.{Scope}
-use Rattle.terms.specs.declared.table.TermTable.{TermTable}
-use Rattle.syntax.specs.declared.spec.Line.{Line}
-use Rattle.syntax.specs.Views.{line_of}
-use Rattle.roles.specs.declared.role.Role.{Role}
-use Rattle.roles.specs.Players.{player_of}
-use Rattle.roles.specs.declared.line_fault.LineFault.{LineFault}
-use Rattle.roles.specs.declared.line_fault.LineFault.TheVariants as line
-use Rattle.roles.specs.declared.translation.Translation.{Translation}
-use Rattle.roles.specs.declared.translation_fault.TranslationFault.{TranslationFault}
-use Rattle.roles.specs.declared.translation_fault.TranslationFault.TheVariants.{Text, Shape, Declarations, Lines}
-use Rattle.roles.specs.Stages.{Stage, refused_by, lines}
-use Rattle.roles.specs.Staging.{Staged, Refused, Translates}
-use Rattle.roles.specs.Translating.{translation}
+use Rattle.terms.specs.declared.limits.Limits.{Limits}
+use Rattle.terms.proofs.DeclaredTerms.{given_every, declared_listed}
+use Rattle.terms.proofs.Leaves.{tree_formed}
+use Rattle.terms.proofs.Standing.{stood_first}
+use Rattle.roles.specs.Playing.{Player}
+use Rattle.roles.specs.Stages.{Stage, lines}
+use Rattle.roles.specs.Specified.{line_among, starting_terms, specified}
+use Rattle.roles.specs.TranslationLaw.{no_roles, Performs, Translated}
+use Rattle.roles.proofs.AllLines.{lines_then}
+use Rattle.roles.proofs.Coming.{came_sayable}
+use Rattle.roles.proofs.SoFar.{all, doings, WellTyped, SoFar, counted}
 
-module _ (limits : Limits) (bytes : List ℕ) where
-  -- what follows the declarations, the shape and the text
-  abbrev with_scope : Specification → Scope → Result Stage TranslationFault
-  with_scope S U = refused_by Lines (lines limits bytes [] S.lines (record { scope = U; players = [] }))
+module _ (text : List ℕ) (limits : Limits) (X : syntax.Specification) (U : Scope) (e : declared text limits X ≡ Ok U) where
+  pub starts_formed : Every Formed (starting_terms text U)
+  starts_formed = (declared_listed text limits X U e).formed
 
-  abbrev with_spec : Specification → Result Stage TranslationFault
-  with_spec S = bind (refused_by Declarations (declared bytes limits S)) (with_scope S)
+  -- before all lines there is no role
+  first : (ls : List Lined) → SoFar text U ls [] [] (no_roles U)
+  first ls = record { scope = refl; stood = stood_first text limits X U e; numbers = refl; typed = tt; between = tt; did = λ r p h. absurd (omega arith) }
 
-  abbrev with_tree : Tree → Result Stage TranslationFault
-  with_tree t = bind (refused_by Shape (shape bytes t)) with_spec
+  -- after the first lines of some
+  pub accepted_so_far : (before after : List Lined) (G : Stage) → lines limits text [] before (no_roles U) ≡ Ok G
+      → SoFar text U (before ++ after) before (all text U before) G
+  accepted_so_far before after G q = lines_then limits text U (before ++ after) starts_formed before [] after refl (no_roles U) G (first (before ++ after)) q
 
-  module _ (t : Tree) (et : reading bytes ≡ Ok t) where
-    from_tree : translation limits bytes ≡ with_tree t
-    from_tree = ap (λ o. bind (refused_by Text o) with_tree) et
+  -- the messages of accepted lines have good types
+  pub messages_typed : (ls : List Lined) (G : Stage) → lines limits text [] ls (no_roles U) ≡ Ok G → WellTyped text U ls
+  messages_typed ls G q = (accepted_so_far ls [] G q).typed
 
-    module _ (S : Specification) (es : shape bytes t ≡ Ok S) where
-      from_spec : translation limits bytes ≡ with_spec S
-      from_spec = from_tree ∙ ap (λ o. bind (refused_by Shape o) with_spec) es
+messages_formed : (text : List ℕ) (U : Scope) (ns : List ℕ) (ls : List Lined) → Every (λ x. Formed x.message) (map (line_among text U ns) ls)
+messages_formed text U ns [] = tt
+messages_formed text U ns (l ∷ ls) = (tree_formed text U.names l.message, messages_formed text U ns ls)
 
-      pub declarations_refused : (f : DeclarationFault) → Unfit (declared bytes limits S) f → Translates (translation limits bytes) (Err (Declarations f))
-      declarations_refused (declaration.Limit at) e = inl (from_spec ∙ ap (λ o. bind (refused_by Declarations o) (with_scope S)) e)
-      declarations_refused (declaration.Redeclared at) e = inl (from_spec ∙ ap (λ o. bind (refused_by Declarations o) (with_scope S)) e)
-      declarations_refused (declaration.Undeclared at) e = inl (from_spec ∙ ap (λ o. bind (refused_by Declarations o) (with_scope S)) e)
-      declarations_refused (declaration.WrongType at) e = inl (from_spec ∙ ap (λ o. bind (refused_by Declarations o) (with_scope S)) e)
-      declarations_refused declaration.NoMemory e = inr refl
+module _ (text : List ℕ) (U : Scope) (formed : Every Formed (starting_terms text U)) (ls : List Lined) (G : Stage) (h : SoFar text U ls ls (all text U ls) G) where
+  abbrev S : Specification
+  S = specified text U ls
 
-      module _ (U : Scope) (eu : declared bytes limits S ≡ Ok U) where
-        from_scope : translation limits bytes ≡ with_scope S U
-        from_scope = from_spec ∙ ap (λ o. bind (refused_by Declarations o) (with_scope S)) eu
+  duties_are : (r : ℕ) → r < S.roles → duties S r ≡ doings text U ls r ls
+  duties_are r b = cond-true _ _ _ (lt-ltb r S.roles b)
 
-        abbrev all : Result Stage LineFault
-        all = lines limits bytes [] S.lines (record { scope = U; players = [] })
+  anybody : Player
+  anybody = record { name = 0; part = record { at = 0; len = 0 }; party = S.party 0; role = nobody_yet; rows = [] }
 
-        module _ (q : Result Stage LineFault) (is : q ≡ all) where
-          pub lines_refused : (f : LineFault) → Refused q f → Translates (translation limits bytes) (Err (Lines f))
-          lines_refused (line.Limit at) e = inl (from_scope ∙ ap (refused_by Lines) (sym is ∙ e))
-          lines_refused (line.Undeclared at) e = inl (from_scope ∙ ap (refused_by Lines) (sym is ∙ e))
-          lines_refused (line.WrongType at) e = inl (from_scope ∙ ap (refused_by Lines) (sym is ∙ e))
-          lines_refused (line.Repeated at) e = inl (from_scope ∙ ap (refused_by Lines) (sym is ∙ e))
-          lines_refused (line.Underivable at n k) e = inl (from_scope ∙ ap (refused_by Lines) (sym is ∙ e))
-          lines_refused line.NoMemory e = inr refl
+  all_sayable : (r : ℕ) → r < S.roles → Sayable (message S) (S.party r) nobody_yet (duties S r)
+  all_sayable r b =
+      subst⁻¹ (Sayable (message S) (S.party r) nobody_yet) (duties_are r b)
+      (came_sayable (message S) (S.party r) nobody_yet (get_or G.players r anybody).role (doings text U ls r ls) (h.did r anybody b).came)
 
-          pub all_done : (T : Translation) → Staged q T → Staged (translation limits bytes) T
-          all_done T w = record { scope = w.scope; is = from_scope ∙ ap (refused_by Lines) (sym is ∙ w.is); means = w.means }
+  is_accepted : Accepted S
+  is_accepted = record {
+    sayable = all_sayable;
+    formed_starts = λ r b. given_every Formed _ U.starts formed;
+    formed_lines = messages_formed text U (all text U ls) ls;
+    between_roles = h.between;
+  }
 
--- the lines of a specification, from a translation with no roles
-pub at_start : (limits : Limits) (bytes : List ℕ) (U : Scope) (t : TermTable) {ls ms : List Line} {rs : List Role} → ls ≡ ms → rs ≡ []
-    → lines limits bytes [] (map line_of ls) (record { scope = U; players = map (player_of t) rs }) ≡ lines limits bytes [] (map line_of ms) (record { scope = U; players = [] })
-at_start limits bytes U t e f = ap₂ (λ ls rs. lines limits bytes [] (map line_of ls) (record { scope = U; players = map (player_of t) rs })) e f
+  performs : (r : ℕ) (p : Player) → r < length G.players → Performs S r (get_or (all text U ls) r 0) (get_or G.players r p)
+  performs r p b =
+      let c = counted text U ls ls (all text U ls) G h in
+      let d = h.did r p (omega arith) in
+      record {
+        named = sym (get_or-map (λ (z : Player). z.name) G.players r p 0 b) ∙ ap (λ ns. get_or ns r 0) h.numbers;
+        party = d.party;
+        rows = d.rows ∙ ap (λ ds. rows_of (stages_from (message S) (S.party r) nobody_yet ds)) (sym (duties_are r (omega arith)));
+      }
+
+  pub translated : Translated text U ls G
+  translated = record { accepted = is_accepted; names = names_law S; many = counted text U ls ls (all text U ls) G h; each = performs }
+
+-- the specification keeps to declared counts of parts if what somebody starts from and the messages do
+module _ (text : List ℕ) (U : Scope) (declared : ℕ → ℕ) where
+  lines_kept : (ns : List ℕ) (ls : List Lined) → Every (λ l. Declared declared (tree text U.names l.message)) ls → Every (λ x. Declared declared x.message) (map (line_among text U ns) ls)
+  lines_kept ns [] h = tt
+  lines_kept ns (l ∷ ls) h = (h.0, lines_kept ns ls h.1)
+
+  pub counts_kept : (ls : List Lined) → Every (Declared declared) (starting_terms text U) → Every (λ l. Declared declared (tree text U.names l.message)) ls → CountsKept declared (specified text U ls)
+  counts_kept ls s h = record { starts = λ r b. given_every (Declared declared) _ U.starts s; lines = lines_kept (all text U ls) ls h }

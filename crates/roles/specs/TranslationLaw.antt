@@ -1,5 +1,5 @@
 -- The law of translation: programs are the model's, and a line is refused as underivable exactly if its message does not derive.
-use Rattle.std.specs.Prelude.{◌≡◌, ℕ, suc, ◌<◌, ◌↔◌, min, false, List, [], ◌∷◌, ◌++◌, length, take, Ok, Err, Result, ◌==◌, slice_index_or}
+use Rattle.std.specs.Prelude.{◌≡◌, ℕ, suc, ◌<◌, ◌↔◌, min, false, List, [], ◌∷◌, ◌++◌, length, take, Ok, Err, ◌==◌, slice_index_or}
 use Rattle.model.specs.Trees as model
 use Rattle.model.specs.Trees.{Within}
 use Rattle.model.specs.Deduction.{Derives}
@@ -45,7 +45,7 @@ pub record Translated (text : List ℕ) (U : Scope) (ls : List Lined) (G : Stage
   pub many : length G.players ≡ (specified text U ls).roles
   pub each : (r : ℕ) (p : Player) → r < length G.players → Performs (specified text U ls) r (slice_index_or (role_names text U ls) r 0) (slice_index_or G.players r p)
 
--- a line whose two roles are there, and whose message is well typed and listed
+-- a line whose sender has its role (`sent`), then its receiver too (`met`), and whose message is well typed and listed
 pub record Ready (limits : Limits) (text : List ℕ) (l : Lined) (G : Stage) : Type 0 where
   pub sender : ℕ
   pub receiver : ℕ
@@ -59,40 +59,50 @@ pub record Ready (limits : Limits) (text : List ℕ) (l : Lined) (G : Stage) : T
   pub starts_receiver : with_role limits text receiver l.receiver sent ≡ Ok met
   pub lists : with_term text (min limits.terms 512) l.message met.scope ≡ Ok listed
 
--- what a role holds when it says the line that comes after k lines
+-- a role's life in the first k lines, and what it holds when it says the next one
 abbrev pub life_before : Specification → ℕ → ℕ → Life
 life_before S r k = life_to S r (own_from S r 1 (take k S.lines))
 
 abbrev pub holds_at : Specification → ℕ → ℕ → model.Tree → Type 0
 holds_at S r k = Holdings (says (life_before S r k) (makes S (suc k)) (message S (suc k)))
 
--- a term derives for the sender of a line, when it says it
-module _ (text : List ℕ) (U : Scope) (before : List Lined) (l : Lined) (sender : ℕ) where
+-- the specification up to a line, and the message that its sender says in it
+module _ (text : List ℕ) (U : Scope) (before : List Lined) (l : Lined) where
   abbrev pub to_here : Specification
   to_here = specified text U (before ++ (l ∷ []))
-
-  abbrev pub sender_place : ℕ
-  sender_place = place_in sender (role_names text U (before ++ (l ∷ [])))
 
   abbrev pub sent_message : model.Tree
   sent_message = message to_here (suc (length before))
 
-  abbrev pub DerivesHere : model.Tree → Type 0
-  DerivesHere t = Derives (to_here.party sender_place) (holds_at to_here sender_place (length before)) t
+  -- a term derives for the party of this name, when it says the message
+  abbrev pub DerivesFor : ℕ → model.Tree → Type 0
+  DerivesFor sender t =
+      let r = place_in sender (role_names text U (before ++ (l ∷ []))) in
+      Derives (to_here.party r) (holds_at to_here r (length before)) t
 
--- a line is refused as underivable exactly if its message does not derive; then the term that the fault names, by its number, does not derive either
+-- a line behind others is refused as underivable: with a place, the name of a role, and the number of a term
+abbrev pub Refuses : Limits → List ℕ → List Lined → Lined → Stage → ℕ → ℕ → ℕ → Type 0
+Refuses limits text before l G at name term = line limits text (suc (length before)) l G ≡ Err (Underivable at name term)
+
+-- so it is exactly if the message does not derive for its sender; the fault has the message's place and the sender's name, and the term of its number does not derive either
 pub record Decided (limits : Limits) (text : List ℕ) (U : Scope) (before : List Lined) (l : Lined) (G : Stage) (m : Ready limits text l G) : Type 0 where
-  pub exactly :
-      ((at name term : ℕ) × (line limits text (suc (length before)) l G ≡ Err (Underivable at name term)))
-      ↔ (¬ DerivesHere text U before l m.sender (sent_message text U before l m.sender))
-  pub derives :
-      (¬ ((at name term : ℕ) × (line limits text (suc (length before)) l G ≡ Err (Underivable at name term))))
-      → DerivesHere text U before l m.sender (sent_message text U before l m.sender)
-  pub places : (at name term : ℕ) → line limits text (suc (length before)) l G ≡ Err (Underivable at name term) → (at ≡ term_place l.message) × (name ≡ m.sender)
+  pub exactly : ((at name term : ℕ) × Refuses limits text before l G at name term) ↔ (¬ DerivesFor text U before l m.sender (sent_message text U before l))
+  pub derives : (¬ ((at name term : ℕ) × Refuses limits text before l G at name term)) → DerivesFor text U before l m.sender (sent_message text U before l)
+  pub places : (at name term : ℕ) → Refuses limits text before l G at name term → (at ≡ term_place l.message) × (name ≡ m.sender)
   pub fails :
-      (at name term : ℕ) (none : model.Tree) → line limits text (suc (length before)) l G ≡ Err (Underivable at name term)
-      → (¬ DerivesHere text U before l m.sender (slice_index_or m.listed.terms term none))
-      × Within (slice_index_or m.listed.terms term none) (sent_message text U before l m.sender)
+      (at name term : ℕ) (none : model.Tree) → Refuses limits text before l G at name term
+      → (¬ DerivesFor text U before l m.sender (slice_index_or m.listed.terms term none)) × Within (slice_index_or m.listed.terms term none) (sent_message text U before l)
+
+-- the line for which lines are refused as underivable: those before it are accepted, and it is ready
+pub record Stopped (limits : Limits) (text : List ℕ) (U : Scope) (ls : List Lined) (at name term : ℕ) : Type 0 where
+  pub before : List Lined
+  pub here : Lined
+  pub after : List Lined
+  pub split : ls ≡ before ++ (here ∷ after)
+  pub stage : Stage
+  pub accepted : lines limits text [] before (no_roles U) ≡ Ok stage
+  pub ready : Ready limits text here stage
+  pub refused : Refuses limits text before here stage at name term
 
 -- so it is for every text
 pub record TranslationLaw (limits : Limits) (text : List ℕ) : Type 0 where
@@ -101,3 +111,6 @@ pub record TranslationLaw (limits : Limits) (text : List ℕ) : Type 0 where
   pub decides :
       (X : syntax.Specification) (U : Scope) → Declares limits text X U → (before after : List Lined) (l : Lined) → X.lines ≡ before ++ (l ∷ after)
       → (G : Stage) → lines limits text [] before (no_roles U) ≡ Ok G → (m : Ready limits text l G) → Decided limits text U before l G m
+  pub stops :
+      (X : syntax.Specification) (U : Scope) → Declares limits text X U → (at name term : ℕ) → lines limits text [] X.lines (no_roles U) ≡ Err (Underivable at name term)
+      → Stopped limits text U X.lines at name term

@@ -32,10 +32,10 @@ pub record Counted (S : Scope) : Type 0 where
 
 -- a term that is read keeps to the counts, and so does what is declared then
 module _ (text : List ℕ) (most : ℕ) (t : Term) (S U : Scope) (e : with_term text most t S ≡ Ok U) (c : Counted S) where
-  pub term_counted : (d : ℕ) → Declared (count_or d S.functions) (tree text S.names t)
+  term_counted : (d : ℕ) → Declared (count_or d S.functions) (tree text S.names t)
   term_counted d = typed_counted text S c.defined d t Number (taken text most t S U e).typed_well
 
-  pub counted_then : Counted U
+  counted_then : Counted U
   counted_then =
       let k = taken text most t S U e in
       record {

@@ -69,7 +69,7 @@ noted_either most at t us vs e = go (has t us) (leb most (length us)) refl e
     go false true h e = absurd (cc)
     go false false h e = inr (h, cc)
 
-noted_more : (most at : ℕ) (t : Tree) (us vs : List Tree) → noted most at t us ≡ Ok vs → More (λ u. u ≡ t) (λ n. eq_tree (leaf n) t) us vs
+pub noted_more : (most at : ℕ) (t : Tree) (us vs : List Tree) → noted most at t us ≡ Ok vs → More (λ u. u ≡ t) (λ n. eq_tree (leaf n) t) us vs
 noted_more most at t us vs e = ⊎_elim old pushed (noted_either most at t us vs e)
   where
     old : (has t us ≡ true) × (vs ≡ us) → More (λ u. u ≡ t) (λ n. eq_tree (leaf n) t) us vs
@@ -140,7 +140,7 @@ module _ (text : List ℕ) (names : List Declared) (most : ℕ) where
     read_more (apply at f ts) us vs e =
         whole_more (applied (function_number (meaning_of text names f.part))) (trees text names ts) most at us (read_all text names most ts us) (read_all_more ts us) vs e
 
-    read_all_more : (ts : Terms) (us vs : List Tree) → read_all text names most ts us ≡ Ok vs → More (InOne (trees text names ts)) (λ n. stands_in_one n (trees text names ts)) us vs
+    pub read_all_more : (ts : Terms) (us vs : List Tree) → read_all text names most ts us ≡ Ok vs → More (InOne (trees text names ts)) (λ n. stands_in_one n (trees text names ts)) us vs
     read_all_more none us vs e = subst (More (InOne model.none) (λ n. false) us) (let x : us ≡ vs = cc in x) (more_none (InOne model.none) us)
     read_all_more (more t ts) us vs e =
         let s = steps_read (read text names most t us) (read_all text names most ts) vs e in

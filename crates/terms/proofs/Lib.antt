@@ -19,7 +19,8 @@ pub mod Making
 pub mod DeclaredTerms
 pub mod Standing
 pub mod Below
-pub mod Shaped
 pub mod Declaring
 pub mod Counted
 pub mod CountedScopes
+pub mod Parts
+pub mod Shaped

@@ -1,6 +1,6 @@
 use Rattle.std.proofs.Common.{sym}
 use Rattle.std.proofs.lemmas.Result.{err_from_is_err_and}
-use Rattle.roles.proofs.AllLines.{label_refused, line_refused, line_done}
+use Rattle.roles.proofs.LinesLeft.{label_refused, line_refused, line_done}
 use Rattle.roles.proofs.translation.Translation.lines.Goals as goal
 
 pub returns-in_err-fresh_label : goal.returns-in_err-fresh_label

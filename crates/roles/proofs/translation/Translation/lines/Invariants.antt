@@ -1,7 +1,7 @@
 use Rattle.std.proofs.Common.{map, take, drop, vec_items}
 use Rattle.syntax.specs.Views.{line_of}
 use Rattle.roles.specs.AllRoles.{AllFit}
-use Rattle.roles.proofs.AllLines.{labels, LeftLines}
+use Rattle.roles.proofs.LinesLeft.{labels, LeftLines}
 use Rattle.roles.proofs.translation.Translation.lines.Given as goal
 
 abbrev pub invariant-loop-index : goal.invariant-loop-index

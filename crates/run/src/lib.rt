@@ -1,0 +1,2 @@
+// Runs of role programs over a store of terms.
+#![tactic(auto)]

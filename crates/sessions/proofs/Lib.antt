@@ -1,0 +1,5 @@
+pub mod Shaped
+pub mod Rows
+pub mod Calling
+pub mod Playing
+pub mod PlainLaw
