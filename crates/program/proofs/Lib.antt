@@ -1,3 +1,4 @@
+pub mod Equality
 pub mod Shortened
 pub mod Filling
 pub mod Stepping

@@ -1,0 +1,7 @@
+pub mod Values
+pub mod Places
+pub mod Lasts
+pub mod Finding
+pub mod Adding
+pub mod Asking
+pub mod Answering

@@ -1,0 +1,10 @@
+-- what rows mean, and what they answer
+pub mod Rows
+pub mod Answered
+pub mod Counts
+pub mod Tables
+pub mod Fitting
+-- how a row with an equal value is found
+pub mod Classes
+pub mod Hashes
+pub mod Chains

@@ -1,0 +1,21 @@
+// Making a compound.
+ghost use Rattle.store.specs.Makers.{wanted};
+ghost use Rattle.program.specs.Actions.{head_of};
+ghost use Rattle.rows.specs.Tables.{means, Adds};
+
+use crate::entry::Row;
+use crate::rows::Rows;
+use program::kind::Kind;
+use store::fault::StoreFault;
+
+impl Rows {
+    pub(crate) fn make_compound(&mut self, kind: Kind, parts: &[u32]) -> Result<u32, StoreFault>
+        ensures { Adds self.old self.new (wanted (means self.old) (head_of kind) parts.now) result }
+    {
+        if parts.len() > 8 {
+            return Err(StoreFault::NoPart);
+        }
+        let parts = self.firsts(parts)?;
+        self.add(Row::Compound { kind, parts })
+    }
+}

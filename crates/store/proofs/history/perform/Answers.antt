@@ -1,0 +1,30 @@
+use Rattle.std.proofs.Common.{◌≡◌, length, min, rules, refl}
+use Rattle.store.specs.History.{start}
+use Rattle.store.proofs.Lawfulness.{lawful, performs_more, rest_more}
+use Rattle.store.proofs.history.perform.Goals as goal
+
+pub loop-i-init : goal.loop-i-init
+loop-i-init g c = (start, refl)
+
+pub loop-i-preserved : goal.loop-i-preserved
+loop-i-preserved g c =
+    let m = g.S.Store in (
+      performs_more m.means m.space m.cost c.args.calls.now c.loop-i.answers c.args.store.now c.loop-i.i c.loop-i.store c.answer.new.store c.answer.result (search rules) (search rules) c.loop-i.invariant.0 c.answer.ensures,
+      rest_more c.loop-i.answers c.args.answers.now c.loop-i.i c.answer.result c.loop-i.invariant.1,
+    )
+
+pub returns-clause-performed : goal.returns-clause-performed
+returns-clause-performed g c =
+    let e : min (length c.args.calls.now) (length c.args.answers.now) ≡ c.loop-i.i = search rules in
+    rw e c.loop-i.invariant.0
+
+pub returns-clause-lawful : goal.returns-clause-lawful
+returns-clause-lawful g c =
+    let m = g.S.Store in
+    let e : min (length c.args.calls.now) (length c.args.answers.now) ≡ c.loop-i.i = search rules in
+    rw e (lawful m.means m.space m.cost c.args.calls.now c.loop-i.answers c.args.store.now c.loop-i.invariant.0)
+
+pub returns-clause-rest : goal.returns-clause-rest
+returns-clause-rest g c =
+    let e : min (length c.args.calls.now) (length c.args.answers.now) ≡ c.loop-i.i = search rules in
+    rw e c.loop-i.invariant.1

@@ -1,0 +1,4 @@
+pub mod Numbers
+pub mod Makers
+pub mod Questions
+pub mod History

@@ -1,0 +1,34 @@
+// Any calls in order, on any store.
+ghost use Rattle.std.specs.Prelude.{◌≡◌, length, min, drop};
+ghost use Rattle.store.specs.History.{Answered, Performed, Lawful};
+
+use crate::call::{Answer, Call};
+use crate::store::Store;
+
+// One call.
+pub fn answer<S: Store>(store: &mut S, call: &Call<'_>) -> Answer
+    ensures { Answered S.means S.space S.cost store.old store.new call.now result }
+{
+    match *call {
+        Call::MakeAtom(number) => Answer::Handle(store.make_atom(number)),
+        Call::MakeTuple(parts) => Answer::Handle(store.make_tuple(parts)),
+        Call::MakeCrypt { text, key } => Answer::Handle(store.make_crypt(text, key)),
+        Call::MakeApply { function, parts } => Answer::Handle(store.make_apply(function, parts)),
+        Call::AskShape(handle) => Answer::Shape(store.shape(handle)),
+        Call::AskPart { handle, index } => Answer::Handle(store.part(handle, index)),
+        Call::AskUnlock { handle, key } => Answer::Handle(store.unlock(handle, key)),
+        Call::AskSame { left, right } => Answer::Equal(store.same(left, right)),
+        Call::AskSpace => Answer::Space(store.space()),
+    }
+}
+
+// Calls in order, as many as there is room for answers.
+pub fn perform<S: Store>(store: &mut S, calls: &[Call<'_>], answers: &mut [Answer])
+    ensures performed { Performed S.means S.space S.cost calls.now answers.new store.old (min (length calls.now) (length answers.old)) store.new }
+    ensures lawful { Lawful S.means S.space S.cost calls.now answers.new store.old (min (length calls.now) (length answers.old)) store.new }
+    ensures rest { drop (min (length calls.now) (length answers.old)) answers.new ≡ drop (min (length calls.now) (length answers.old)) answers.old }
+{
+    for i in 0..calls.len().min(answers.len()) {
+        answers[i] = answer(store, &calls[i]);
+    }
+}

@@ -1,0 +1,21 @@
+// A store that can be made anew, as large as it can be.
+use rows::rows::Rows;
+use std::alloc::{AllocError, Global};
+use store::store::Store;
+use tape::tape::Tape;
+
+pub(crate) trait Anew: Store + Drop {
+    fn anew(heap: Global) -> Result<Self, AllocError>;
+}
+
+impl Anew for Rows {
+    fn anew(heap: Global) -> Result<Rows, AllocError> {
+        Rows::new(heap, 4096)
+    }
+}
+
+impl Anew for Tape {
+    fn anew(heap: Global) -> Result<Tape, AllocError> {
+        Tape::new(heap, 65535)
+    }
+}

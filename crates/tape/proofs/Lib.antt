@@ -1,0 +1,16 @@
+pub mod Formed
+pub mod Decoding
+pub mod Starting
+pub mod Reaching
+pub mod Walking
+pub mod Ending
+pub mod Comparing
+pub mod Parting
+pub mod Gathering
+pub mod Sizing
+pub mod Appending
+pub mod Building
+pub mod Making
+pub mod Opening
+pub mod Asking
+pub mod Law

@@ -1,0 +1,7 @@
+pub mod Headers
+pub mod Values
+pub mod Opening
+pub mod Making
+pub mod Fitting
+pub mod Tapes
+pub mod Law

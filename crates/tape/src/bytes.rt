@@ -1,0 +1,47 @@
+// A tape's bytes, and the places of handles.
+ghost use Rattle.std.specs.Prelude.{◌≡◌, ◌≤◌, [], length, min, IfOk};
+ghost use Rattle.tape.specs.Values.{IsWhole};
+ghost use Rattle.tape.specs.Tapes.{bytes_of, tape_space, Finds};
+ghost use Rattle.tape.specs.Law.{TapeLaw};
+
+use crate::tape::Tape;
+use crate::walk::starts;
+use std::alloc::{AllocError, Global};
+use store::fault::StoreFault;
+
+// A handle is a place on the tape, below this.
+const MOST: usize = 65535;
+
+impl Tape {
+    // An empty tape of so many bytes, or of 65,535.
+    pub fn new(heap: Global, most: usize) -> Result<Tape, AllocError>
+        ensures empty { IfOk result (λ t. bytes_of t ≡ []) }
+        ensures space { IfOk result (λ t. tape_space t ≡ min most 65535) }
+        ensures law { TapeLaw }
+    {
+        Ok(Tape {
+            bytes: vec![in heap; 0; most.min(MOST)]?,
+            used: 0,
+        })
+    }
+
+    // The encodings of the values that were made, one after the other.
+    pub fn as_bytes(&self) -> &[u8]
+        ensures bytes { result.now ≡ bytes_of self.now }
+        ensures few { length result.now ≤ 65535 }
+        ensures whole { IsWhole result.now }
+    {
+        &self.bytes[..self.used]
+    }
+
+    // The place of a handle's encoding.
+    pub(crate) fn find(&self, handle: u32) -> Result<usize, StoreFault>
+        ensures { Finds self.now handle result }
+    {
+        let place = handle as usize;
+        if !starts(self.as_bytes(), place) {
+            return Err(StoreFault::Invalid);
+        }
+        Ok(place)
+    }
+}

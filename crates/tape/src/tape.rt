@@ -1,0 +1,12 @@
+// A tape of bytes: the first `used` of them are the encodings of values.
+ghost use Rattle.std.specs.Prelude.{◌≤◌, take, vec_len};
+ghost use Rattle.tape.specs.Values.{IsWhole};
+
+#[derive(Drop)]
+pub struct Tape {
+    pub(crate) bytes: Vec<u8>,
+    pub(crate) used: usize,
+    ghost within: { used ≤ vec_len bytes },
+    ghost small: { vec_len bytes ≤ 65535 },
+    ghost whole: { IsWhole (take used bytes.items) },
+}
