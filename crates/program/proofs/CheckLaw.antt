@@ -15,7 +15,7 @@ one_of_all (x ∷ rs) qs r a h = go (or_cases (eqb r x) (has r rs) h) (one_of_al
     go (inl e) f = subst⁻¹ (λ z. has z qs ≡ true) (eqb-true r x e) (and_parts _ _ a).0
     go (inr i) f = f i
 
-one_of_none : (rs qs : List ℕ) (r : ℕ) → has_none rs qs ≡ true → has r rs ≡ true → has r qs ≡ false
+pub one_of_none : (rs qs : List ℕ) (r : ℕ) → has_none rs qs ≡ true → has r rs ≡ true → has r qs ≡ false
 one_of_none [] qs r a h = absurd (false≢true h)
 one_of_none (x ∷ rs) qs r a h = go (or_cases (eqb r x) (has r rs) h) (one_of_none rs qs r (and_parts _ _ a).1)
   where
@@ -23,7 +23,7 @@ one_of_none (x ∷ rs) qs r a h = go (or_cases (eqb r x) (has r rs) h) (one_of_n
     go (inl e) f = subst⁻¹ (λ z. has z qs ≡ false) (eqb-true r x e) (not-true (has x qs) (and_parts _ _ a).0)
     go (inr i) f = f i
 
-has_first : (x : ℕ) (rs : List ℕ) → has x (x ∷ rs) ≡ true
+pub has_first : (x : ℕ) (rs : List ℕ) → has x (x ∷ rs) ≡ true
 has_first x rs = ap (λ b. b || has x rs) (eq-eqb x x refl)
 
 has_later : (r x : ℕ) (rs : List ℕ) → has r rs ≡ true → has r (x ∷ rs) ≡ true

@@ -25,7 +25,7 @@ pub has_append : (r : ℕ) (a b : List ℕ) → has r (a ++ b) ≡ (has r a || h
 has_append r [] b = refl
 has_append r (x ∷ a) b = ap (λ z. eqb r x || z) (has_append r a b) ∙ sym (or_assoc (eqb r x) (has r a) (has r b))
 
-from_more : (r n : ℕ) → from r (suc n) ≡ from r n ++ ((r + n) ∷ [])
+pub from_more : (r n : ℕ) → from r (suc n) ≡ from r n ++ ((r + n) ∷ [])
 from_more r zero = let e : r + zero ≡ r = omega arith in ap (λ z. z ∷ []) (sym e)
 from_more r (suc n) = let e : suc r + n ≡ r + suc n = omega arith in ap (λ zs. r ∷ zs) (from_more (suc r) n ∙ ap (λ z. from (suc r) n ++ (z ∷ [])) e)
 

@@ -10,7 +10,7 @@ use Rattle.program.specs.Checked.{AreFilled, is_ready, Fills, Steps, span_of}
 use Rattle.program.specs.Marked.{marked_all}
 use Rattle.program.proofs.Filling.{marked_has}
 
-fills_span : (a : Action) → fills a ≡ from (span_of a).first (span_of a).count
+pub fills_span : (a : Action) → fills a ≡ from (span_of a).first (span_of a).count
 fills_span (Give t) = refl
 fills_span (New t) = refl
 fills_span (Hear t) = refl

@@ -62,9 +62,9 @@ impl Filled {
 
 // Some registers in a row, as rows name them: the first and their count.
 #[derive(Clone, Copy)]
-pub(crate) struct Span {
-    pub(crate) first: u16,
-    pub(crate) count: u8,
+pub struct Span {
+    pub first: u16,
+    pub count: u8,
 }
 
 impl Action {
@@ -85,7 +85,7 @@ impl Action {
     }
 
     // The registers that the action fills.
-    pub(crate) fn fills(self) -> Span
+    pub fn fills(self) -> Span
         ensures { result ≡ span_of self }
     {
         match self {

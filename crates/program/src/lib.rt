@@ -2,7 +2,7 @@
 #![tactic(auto)]
 
 pub mod action;
-mod check;
+pub mod check;
 pub mod held;
 pub mod kind;
 pub mod marks;

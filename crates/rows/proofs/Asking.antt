@@ -9,7 +9,7 @@ use Rattle.model.specs.Roles.{count}
 use Rattle.store.specs.Makers.{with_more, gathered}
 use Rattle.rows.specs.declared.entry.Entry.{Entry}
 use Rattle.rows.specs.Rows.{values_at, row_value, values, meaning}
-use Rattle.rows.specs.Classes.{place_of, entry_at, class_at, value_at, Classed, Earlier, First, IsFirst, IsOfFirst}
+use Rattle.rows.specs.Classes.{place_of, entry_at, class_at, value_at, Classed, Earlier, First, IsRow, IsFirst, IsOfFirst}
 use Rattle.rows.specs.Fitting.{values_length}
 use Rattle.rows.proofs.Places.{place_is, place_least}
 use Rattle.rows.proofs.Finding.{value_at_row, of_first}
@@ -36,15 +36,16 @@ module _ (es : List Entry) (classed : Classed es) where
       let m : class_at es h < length es = omega arith in
       ((m, classed (class_at es h) m ∙ ap (λ w. place_of w (values es)) q ∙ sym c), q)
 
-  pub first_of : (h : ℕ) (e : Entry) → h < length es → e ≡ entry_at es h → IsFirst es e.class × (meaning es h ≡ Some (value_at es e.class))
-  first_of h e l q =
-      let f = class_first h l in
-      subst⁻¹ (λ (x : Entry). IsFirst es x.class × (meaning es h ≡ Some (value_at es x.class))) q (f.0, some_row es h l ∙ ap Some (sym f.1))
+  pub first_of : (h k : ℕ) (e : Entry) → IsRow es k → meaning es h ≡ Some (value_at es k) → e ≡ entry_at es k → IsFirst es e.class × (meaning es h ≡ Some (value_at es e.class))
+  first_of h k e l m q =
+      let f = class_first k l in
+      subst⁻¹ (λ (x : Entry). IsFirst es x.class × (meaning es h ≡ Some (value_at es x.class))) q (f.0, m ∙ ap Some (sym f.1))
 
-  pub row_of : Earlier es → First es → (h : ℕ) (e : Entry) → h < length es → e ≡ entry_at es h → IsOfFirst es e.row × (meaning es h ≡ Some (row_value (values es) e.row))
-  row_of earlier first h e l q =
+  pub row_of : Earlier es → First es → (h k : ℕ) (e : Entry) → IsRow es k → meaning es h ≡ Some (value_at es k) → e ≡ entry_at es k
+      → IsOfFirst es e.row × (meaning es h ≡ Some (row_value (values es) e.row))
+  row_of earlier first h k e l m q =
       subst⁻¹ (λ (x : Entry). IsOfFirst es x.row × (meaning es h ≡ Some (row_value (values es) x.row))) q
-      (of_first es classed earlier first h l, some_row es h l ∙ ap Some (value_at_row es classed earlier h l))
+      (of_first es classed earlier first k l, m ∙ ap Some (value_at_row es classed earlier k l))
 
 -- the values of some handles
 gathered_all : (m : ℕ → Option Tree) (vs : List Tree) (hs ps : List ℕ) → length ps ≡ length hs → ((j : ℕ) → j < length hs → m (get_or hs j 0) ≡ Some (get_or vs (get_or ps j 0) (leaf 0))) → gathered m hs ≡ Some (values_at vs ps)

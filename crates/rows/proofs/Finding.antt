@@ -72,7 +72,7 @@ head_same (kinds.Apply f) (kinds.Apply g) e = cc
 
 module _ (es : List Entry) (classed : Classed es) where
   -- firsts with one value are one
-  pub one_first : (j k : ℕ) → IsFirst es j → IsFirst es k → value_at es j ≡ value_at es k → j ≡ k
+  one_first : (j k : ℕ) → IsFirst es j → IsFirst es k → value_at es j ≡ value_at es k → j ≡ k
   one_first j k a b e = sym a.1 ∙ classed j a.0 ∙ ap (λ v. place_of v (values es)) e ∙ sym (classed k b.0) ∙ b.1
 
   same_parts : (ks js : List ℕ) → All (IsFirst es) ks → All (IsFirst es) js → values_at (values es) ks ≡ values_at (values es) js → ks ≡ js

@@ -5,3 +5,4 @@ pub mod Finding
 pub mod Adding
 pub mod Asking
 pub mod Answering
+pub mod Equality

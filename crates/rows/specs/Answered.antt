@@ -1,8 +1,17 @@
--- What a row answers about its parts.
-use Rattle.std.specs.Prelude.{ℕ, if◌then◌else◌, List, [], ◌∷◌, Some, None, Option, ◌==◌}
+-- What a row answers about itself and its parts.
+use Rattle.std.specs.Prelude.{ℕ, Bool, false, List, [], ◌∷◌, Some, None, Option, ◌==◌}
+use Rattle.model.specs.Trees.{eq_head}
+use Rattle.program.specs.Actions.{head_of}
 use Rattle.program.specs.declared.kind.Kind.TheVariants as kinds
 use Rattle.rows.specs.declared.entry.Row.{Row}
 use Rattle.rows.specs.declared.entry.Row.TheVariants.{Atom, Compound}
+
+-- whether rows are of one kind, and of one number, whatever their parts
+abbrev pub alike : Row → Row → Bool
+alike (Atom m) (Atom n) = m == n
+alike (Atom m) (Compound l qs) = false
+alike (Compound k ps) (Atom n) = false
+alike (Compound k ps) (Compound l qs) = eq_head (head_of k) (head_of l)
 
 -- the parts that can be asked for
 abbrev pub asked_parts : Row → List ℕ
@@ -11,13 +20,13 @@ asked_parts (Compound kinds.Tuple ps) = ps
 asked_parts (Compound kinds.Crypt ps) = []
 asked_parts (Compound (kinds.Apply f) ps) = ps
 
--- the text of a ciphertext whose key is a row
-abbrev pub text_if : ℕ → List ℕ → Option ℕ
-text_if key (t ∷ (k ∷ [])) = if k == key then Some t else None
-text_if key ks = None
+-- the text and the key of a ciphertext
+abbrev pub two_of : List ℕ → Option (ℕ × ℕ)
+two_of (t ∷ (k ∷ [])) = Some (t, k)
+two_of ks = None
 
-abbrev pub text_part : Row → ℕ → Option ℕ
-text_part (Atom n) key = None
-text_part (Compound kinds.Tuple ps) key = None
-text_part (Compound kinds.Crypt ps) key = text_if key ps
-text_part (Compound (kinds.Apply f) ps) key = None
+abbrev pub text_and_key : Row → Option (ℕ × ℕ)
+text_and_key (Atom n) = None
+text_and_key (Compound kinds.Tuple ps) = None
+text_and_key (Compound kinds.Crypt ps) = two_of ps
+text_and_key (Compound (kinds.Apply f) ps) = None

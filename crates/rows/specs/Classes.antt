@@ -43,9 +43,13 @@ First es =
     (k i : ℕ) → k < length es → i < length (parts_of (row_at es k))
     → class_at es (slice_index (parts_of (row_at es k)) i) ≡ slice_index (parts_of (row_at es k)) i
 
--- a row of the table that is the first with its value
+-- a row of the table
+abbrev pub IsRow : List Entry → ℕ → Type 0
+IsRow es k = k < length es
+
+-- and the first with its value
 abbrev pub IsFirst : List Entry → ℕ → Type 0
-IsFirst es k = (k < length es) × (class_at es k ≡ k)
+IsFirst es k = IsRow es k × (class_at es k ≡ k)
 
 abbrev pub IsOfFirst : List Entry → Row → Type 0
 IsOfFirst es r = All (IsFirst es) (parts_of r)

@@ -3,7 +3,8 @@ ghost use Rattle.std.specs.Prelude.{◌≡◌, List, slice_get};
 ghost use Rattle.model.specs.Trees.{Tree};
 ghost use Rattle.store.specs.Questions.{shape_of};
 ghost use Rattle.rows.specs.Rows.{row_value};
-ghost use Rattle.rows.specs.Answered.{asked_parts, text_part};
+ghost use Rattle.rows.specs.Classes.{parts_of};
+ghost use Rattle.rows.specs.Answered.{alike, asked_parts, text_and_key};
 
 use crate::entry::Row;
 use program::kind::Kind;
@@ -39,19 +40,40 @@ impl Row {
         }
     }
 
-    // The text of a ciphertext under a key.
-    pub(crate) fn text(self, key: u16) -> Option<u16>
-        ensures { result ≡ text_part self key }
+    // The text and the key of a ciphertext.
+    pub(crate) fn text_and_key(self) -> Option<(u16, u16)>
+        ensures { result ≡ text_and_key self }
     {
         match self {
             Row::Atom(_) => None,
             Row::Compound { kind, parts } => {
                 let parts = parts.as_slice();
-                if kind == Kind::Crypt && parts.len() == 2 && parts[1] == key {
-                    return Some(parts[0]);
+                if kind == Kind::Crypt && parts.len() == 2 {
+                    return Some((parts[0], parts[1]));
                 }
                 None
             }
+        }
+    }
+
+    // Whether another row is of the same kind and number, whatever its parts.
+    pub(crate) fn is_like(&self, other: &Row) -> bool
+        ensures { result ≡ alike self.now other.now }
+    {
+        match (*self, *other) {
+            (Row::Atom(number), Row::Atom(other)) => number == other,
+            (Row::Compound { kind, .. }, Row::Compound { kind: other, .. }) => kind == other,
+            _ => false,
+        }
+    }
+
+    // The parts; an atom has none.
+    pub(crate) fn parts(&self) -> &[u16]
+        ensures { result.now ≡ parts_of self.now }
+    {
+        match self {
+            Row::Atom(_) => &[],
+            Row::Compound { parts, .. } => parts.as_slice(),
         }
     }
 }

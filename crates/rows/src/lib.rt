@@ -3,7 +3,9 @@
 
 mod add;
 mod ask;
+mod empty;
 mod entry;
+mod equal;
 mod hash;
 mod lookup;
 mod make;

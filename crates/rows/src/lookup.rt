@@ -4,7 +4,7 @@ ghost use Rattle.std.specs.List.{All};
 ghost use Rattle.store.specs.Makers.{gathered};
 ghost use Rattle.store.specs.declared.fault.StoreFault.TheVariants.{Invalid};
 ghost use Rattle.rows.specs.Rows.{values, values_at, row_value, meaning};
-ghost use Rattle.rows.specs.Classes.{IsFirst, IsOfFirst, place_of, entry_at, value_at};
+ghost use Rattle.rows.specs.Classes.{IsRow, IsFirst, IsOfFirst, place_of, entry_at, value_at};
 
 use crate::entry::{Entry, Row};
 use crate::hash;
@@ -14,7 +14,7 @@ use store::fault::StoreFault;
 
 impl Rows {
     // A row by its number; past the end there is a blank.
-    fn entry(&self, number: usize) -> Entry
+    pub(crate) fn entry(&self, number: usize) -> Entry
         ensures { result ≡ entry_at self.now.entries.items number }
     {
         self.entries.get(number).copied().unwrap_or(Entry {
@@ -40,16 +40,25 @@ impl Rows {
         self.entries.len()
     }
 
+    // The number of a handle's row.
+    pub(crate) fn number(&self, handle: u32) -> Result<usize, StoreFault>
+        ensures { MatchResult result
+            (λ k. IsRow self.now.entries.items k × (meaning self.now.entries.items handle ≡ Some (value_at self.now.entries.items k)))
+            (λ e. (e ≡ Invalid) × (meaning self.now.entries.items handle ≡ None)) }
+    {
+        if handle as usize >= self.entries.len() {
+            return Err(StoreFault::Invalid);
+        }
+        Ok(handle as usize)
+    }
+
     // The row of a handle.
     pub(crate) fn row(&self, handle: u32) -> Result<Row, StoreFault>
         ensures { MatchResult result
             (λ r. IsOfFirst self.now.entries.items r × (meaning self.now.entries.items handle ≡ Some (row_value (values self.now.entries.items) r)))
             (λ e. (e ≡ Invalid) × (meaning self.now.entries.items handle ≡ None)) }
     {
-        if handle as usize >= self.entries.len() {
-            return Err(StoreFault::Invalid);
-        }
-        Ok(self.entry(handle as usize).row)
+        Ok(self.entry(self.number(handle)?).row)
     }
 
     // The first row with the value of a handle.
@@ -58,10 +67,7 @@ impl Rows {
             (λ k. IsFirst self.now.entries.items k × (meaning self.now.entries.items handle ≡ Some (value_at self.now.entries.items k)))
             (λ e. (e ≡ Invalid) × (meaning self.now.entries.items handle ≡ None)) }
     {
-        if handle as usize >= self.entries.len() {
-            return Err(StoreFault::Invalid);
-        }
-        Ok(self.entry(handle as usize).class)
+        Ok(self.entry(self.number(handle)?).class)
     }
 
     // The first rows with the values of some handles.

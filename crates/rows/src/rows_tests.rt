@@ -74,20 +74,73 @@ fn full(rt: HostRuntime) -> Result<(), Fail> {
     Ok(())
 }
 
-// Each row is a tuple of the row before it twice.
+// A chain of so many rows over an atom: each is a tuple of the row before it twice.
+fn twins(rows: &mut Rows, atom: u32, count: usize) -> Result<u32, StoreFault> {
+    let mut last = rows.make_atom(atom)?;
+    for _ in 1..count {
+        last = rows.make_tuple(&[last, last])?;
+    }
+    Ok(last)
+}
+
 #[test]
 fn twin_chains(rt: HostRuntime) -> Result<(), Fail> {
     let mut rows = Rows::new(rt.alloc(), 4096)?;
-    let mut left = rows.make_atom(1)?;
-    let mut right = rows.make_atom(1)?;
-    for _ in 1..2000 {
-        left = rows.make_tuple(&[left, left])?;
-        right = rows.make_tuple(&[right, right])?;
-    }
+    let left = twins(&mut rows, 1, 2000)?;
+    let right = twins(&mut rows, 1, 2000)?;
     assert!(rt; left != right);
     assert!(rt; rows.same(left, right) == Ok(true));
     let longer = rows.make_tuple(&[left, right])?;
     assert!(rt; rows.same(longer, right) == Ok(false));
+    let crypt = rows.make_crypt(longer, left)?;
+    let text = rows.unlock(crypt, right)?;
+    assert!(rt; rows.same(text, longer) == Ok(true));
+    assert!(rt; rows.unlock(crypt, longer) == Err(StoreFault::Mismatch));
+    Ok(())
+}
+
+// They differ only at the bottom.
+#[test]
+fn twin_chains_over_other_atoms(rt: HostRuntime) -> Result<(), Fail> {
+    let mut rows = Rows::new(rt.alloc(), 4096)?;
+    let left = twins(&mut rows, 1, 2000)?;
+    let right = twins(&mut rows, 2, 2000)?;
+    assert!(rt; rows.same(left, right) == Ok(false));
+    let crypt = rows.make_crypt(left, left)?;
+    assert!(rt; rows.unlock(crypt, right) == Err(StoreFault::Mismatch));
+    Ok(())
+}
+
+// As deep as calls nest: each row against the one before it.
+#[test]
+fn chain_against_itself(rt: HostRuntime) -> Result<(), Fail> {
+    let mut rows = Rows::new(rt.alloc(), 4096)?;
+    let last = twins(&mut rows, 1, 4096)?;
+    assert!(rt; rows.space() == 0);
+    let before = rows.part(last, 1)?;
+    assert!(rt; rows.same(last, before) == Ok(false));
+    assert!(rt; rows.same(last, last) == Ok(true));
+    Ok(())
+}
+
+#[test]
+fn differing_values(rt: HostRuntime) -> Result<(), Fail> {
+    let mut rows = Rows::new(rt.alloc(), 20)?;
+    let one = rows.make_atom(1)?;
+    let two = rows.make_atom(2)?;
+    let pair = rows.make_tuple(&[one, two])?;
+    let crypt = rows.make_crypt(one, two)?;
+    let apply = rows.make_apply(0, &[one, two])?;
+    let other = rows.make_apply(1, &[one, two])?;
+    let empty = rows.make_tuple(&[])?;
+    let longer = rows.make_tuple(&[one, two, two])?;
+    let last = rows.make_tuple(&[one, one])?;
+    let zero = rows.make_atom(0)?;
+    for value in [crypt, apply, other, empty, longer, last, one, zero] {
+        assert!(rt; rows.same(pair, value) == Ok(false));
+    }
+    assert!(rt; rows.same(apply, other) == Ok(false));
+    assert!(rt; rows.same(empty, zero) == Ok(false));
     Ok(())
 }
 

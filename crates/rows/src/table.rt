@@ -48,17 +48,17 @@ impl Store for Rows {
 
     fn unlock(&self, handle: u32, key: u32) -> Result<u32, StoreFault> {
         let row = self.row(handle)?;
-        match row.text(self.first(key)?) {
-            Some(text) => Ok(text as u32),
-            None => Err(StoreFault::Mismatch),
+        let key = self.number(key)?;
+        match row.text_and_key() {
+            Some((text, own)) if self.equal(own as usize, key) => Ok(text as u32),
+            _ => Err(StoreFault::Mismatch),
         }
     }
 
-    // Firsts with one value are one.
     fn same(&self, left: u32, right: u32) -> Result<bool, StoreFault> {
-        let left = self.first(left)?;
-        let right = self.first(right)?;
-        Ok(left == right)
+        let left = self.number(left)?;
+        let right = self.number(right)?;
+        Ok(self.equal(left, right))
     }
 
     fn space(&self) -> usize {

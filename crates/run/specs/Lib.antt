@@ -1,1 +1,12 @@
 pub mod Plain
+pub mod Faults
+pub mod Taking
+pub mod Shown
+pub mod Stepped
+pub mod Filling
+pub mod Lined
+pub mod Turned
+pub mod Started
+pub mod Tried
+pub mod Called
+pub mod Looked

@@ -1,9 +1,9 @@
 -- A run of a program on values, with no store and no handles: what each of its calls does.
-use Rattle.std.specs.Prelude.{ℕ, zero, suc, ◌+◌, Bool, true, false, cond, not, ◌&&◌, List, [], ◌∷◌, map, length, drop, ◌==◌}
-use Rattle.std.proofs.Math.Option.{Option, none as nothing, some}
+use Rattle.std.specs.Prelude.{ℕ, ◌+◌, Bool, true, false, cond, ◌&&◌, List, [], ◌∷◌, map, length, drop, ◌==◌}
+use Rattle.std.proofs.Math.Option.{Option}
 use Rattle.model.specs.Trees.{Tree}
 use Rattle.model.specs.Roles.{Act, give, new, hear as hear_it, say as say_it, same, make, split, unlock}
-use Rattle.model.specs.Runs.{Memory, empty, Fault, mismatch, full, invalid, broken, Machine, Outcome, ended, stopped, attempt, answer}
+use Rattle.model.specs.Runs.{Memory, empty, Fault, mismatch, full, invalid, broken, Outcome, ended, stopped, attempt, answer}
 use Rattle.model.specs.Sessions.{Answer, taken, declined, valid, gives, news}
 
 -- A run: whether its begin was taken, how many actions were done in the lines taken, the rows still to come with their lines,

@@ -3,3 +3,8 @@ pub mod Rows
 pub mod Calling
 pub mod Playing
 pub mod PlainLaw
+pub mod Zips
+pub mod Moved
+pub mod Doing
+pub mod Going
+pub mod Beginning

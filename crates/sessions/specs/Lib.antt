@@ -1,2 +1,11 @@
 pub mod Plays
 pub mod PlainLaw
+pub mod Requests
+pub mod Replying
+pub mod Traces
+pub mod Performing
+pub mod Standing
+pub mod Asking
+pub mod Moving
+pub mod Going
+pub mod Starting

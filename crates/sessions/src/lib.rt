@@ -1,7 +1,17 @@
-// Sessions of plain runs: what runs of translated programs do on values, over any list of calls.
+// Sessions: what runs of translated programs do over any list of calls, on values and over a store.
 #![tactic(auto)]
 
 ghost use Rattle.sessions.specs.PlainLaw.{PlainLaw};
+
+pub mod fault;
+mod calls;
+mod one;
+mod past;
+pub mod perform;
+mod questions;
+mod runs;
+pub mod reply;
+pub mod request;
 
 // Runs of an accepted specification's programs go as the model's sessions go, and are lawful.
 pub fn plain_sessions_follow()

@@ -1,5 +1,5 @@
 -- The law of any calls in order.
-use Rattle.std.proofs.Common.{◌≡◌, ◌≢◌, ℕ, zero, suc, ◌+◌, ◌<◌, List, [], ◌∷◌, Some, None, Ok, Err, Option, Result, refl, sym, ap, ap₂, ◌∙◌, subst, arith, below_more, length, get_or, set, drop}
+use Rattle.std.proofs.Common.{◌≡◌, ◌≢◌, ℕ, zero, suc, ◌+◌, ◌<◌, ◌≤◌, List, [], ◌∷◌, Some, None, Ok, Err, Option, Result, refl, sym, ap, ap₂, ◌∙◌, subst, arith, below_more, length, get_or, set, drop}
 use mathlib.Core.Path.{subst⁻¹}
 use Rattle.std.proofs.lemmas.List.{get_or_default, get_or-set_same, get_or-set_other, drop-set-lt, drop-drop}
 use Rattle.model.specs.Trees.{tupled, crypted, applied, Tree, leaf}
@@ -9,7 +9,7 @@ use Rattle.store.specs.declared.call.Call.TheVariants.{MakeAtom, MakeTuple, Make
 use Rattle.store.specs.declared.call.Answer.{Answer}
 use Rattle.store.specs.declared.call.Answer.TheVariants as answers
 use Rattle.store.specs.Makers.{wanted}
-use Rattle.store.specs.History.{OnHandle, handle_of, made, Names, Tells, Answered, price, price_of, call_at, answer_at, made_at, Performed, start, more, total, Lawful}
+use Rattle.store.specs.History.{OnHandle, handle_of, made, Names, Tells, Answered, price, price_of, call_at, answer_at, made_at, is_made, made_count, Performed, start, more, total, Lawful}
 use Rattle.store.proofs.Growing.{Keeps, true_kept}
 use Rattle.store.proofs.Steps.{Steps, steps}
 
@@ -51,22 +51,22 @@ module _ {S : Type 0} (means : S → ℕ → Option Tree) (space : S → ℕ) (c
   price_kept t u None k f = refl
   price_kept t u (Some h) k f = let v = f h refl in ap (price means space cost) (k h v.0 v.1 ∙ sym v.1)
 
-  total_kept : (t u : S) (n : ℕ) → Keeps (means t) (means u) → ((k h : ℕ) → k < n → made_at means space cost calls given old k ≡ Some h → Valid (means t) h)
+  total_kept : (t u : S) (n : ℕ) → Keeps (means t) (means u) → ((k h : ℕ) → k < n → made_at calls given k ≡ Some h → Valid (means t) h)
       → total means space cost calls given old u n ≡ total means space cost calls given old t n
   total_kept t u zero k f = refl
   total_kept t u (suc n) k f =
-      ap₂ (λ (x y : ℕ). x + y) (total_kept t u n k (λ j h l. f j h (omega arith))) (price_kept t u (made_at means space cost calls given old n) k (λ h. f n h (omega arith)))
+      ap₂ (λ (x y : ℕ). x + y) (total_kept t u n k (λ j h l. f j h (omega arith))) (price_kept t u (made_at calls given n) k (λ h. f n h (omega arith)))
 
-  made_there : (t : S) (n k h : ℕ) → Lawful means space cost calls given old n t → k < n → made_at means space cost calls given old k ≡ Some h → Valid (means t) h
-  made_there t n k h l b e = made_valid (means t) (call_at means space cost calls given old k) (answer_at means space cost calls given old k) h (l.holds k b) e
+  made_there : (t : S) (n k h : ℕ) → Lawful means space cost calls given old n t → k < n → made_at calls given k ≡ Some h → Valid (means t) h
+  made_there t n k h l b e = made_valid (means t) (call_at calls k) (answer_at given k) h (l.holds k b) e
 
   -- one call more
   goes_on : (n : ℕ) (t u : S) → Lawful means space cost calls given old n t
-      → Steps means space cost t u (call_at means space cost calls given old n) (answer_at means space cost calls given old n) → Lawful means space cost calls given old (suc n) u
+      → Steps means space cost t u (call_at calls n) (answer_at given n) → Lawful means space cost calls given old (suc n) u
   goes_on n t u l s =
-      let call = call_at means space cost calls given old in
-      let answer = answer_at means space cost calls given old in
-      let made_by = made_at means space cost calls given old in
+      let call = call_at calls in
+      let answer = answer_at given in
+      let made_by = made_at calls given in
       record {
         kept = λ h v e. s.kept h v (l.kept h v e);
         holds = λ k b. below_more (λ i. Tells (means u) (call i) (answer i)) n (λ i m. true_kept (means t) (means u) s.kept (call i) (answer i) (l.holds i m)) s.holds k (omega arith);
@@ -89,14 +89,14 @@ module _ {S : Type 0} (means : S → ℕ → Option Tree) (space : S → ℕ) (c
     paid = omega arith;
   }
   lawful (more {n = n} {t = t} p u a) =
-      goes_on n t u (lawful p) (steps means space cost t u (call_at means space cost calls given old n) (answer_at means space cost calls given old n) a)
+      goes_on n t u (lawful p) (steps means space cost t u (call_at calls n) (answer_at given n) a)
 
   -- the first calls look at the first answers alone
-  pub other_answers : (others : List Answer) {n : ℕ} {t : S} → ((k : ℕ) → k < n → answer_at means space cost calls others old k ≡ answer_at means space cost calls given old k)
+  pub other_answers : (others : List Answer) {n : ℕ} {t : S} → ((k : ℕ) → k < n → answer_at others k ≡ answer_at given k)
       → Performed means space cost calls given old n t → Performed means space cost calls others old n t
   other_answers others f start = start
   other_answers others f (more {n = n} {t = t} p u a) =
-      more (other_answers others (λ k b. f k (omega arith)) p) u (subst⁻¹ (Answered means space cost t u (call_at means space cost calls given old n)) (f n (omega arith)) a)
+      more (other_answers others (λ k b. f k (omega arith)) p) u (subst⁻¹ (Answered means space cost t u (call_at calls n)) (f n (omega arith)) a)
 
   pub performs_more : (i : ℕ) (t u : S) (r : Answer) → i < length calls → i < length given → Performed means space cost calls given old i t
       → Answered means space cost t u (get_or calls i (MakeAtom 0)) r → Performed means space cost calls (set given i r) old (i + 1) u
@@ -107,6 +107,21 @@ module _ {S : Type 0} (means : S → ℕ → Option Tree) (space : S → ℕ) (c
       rw z
       (more (other_answers (set given i r) (λ k m. get_or-set_other given i k r (answers.Space 0) (λ e. absurd (omega arith))) p) u
       (subst⁻¹ (Answered means space cost t u (get_or calls i AskSpace)) d (subst (λ x. Answered means space cost t u x r) c a)))
+
+  -- each value costs something, so that there are no more than there was space
+  count_bound : ((v : Tree) → 1 ≤ cost v) → (t : S) (n : ℕ) → ((k h : ℕ) → k < n → made_at calls given k ≡ Some h → Valid (means t) h) → made_count calls given n ≤ total means space cost calls given old t n
+  count_bound costs t zero f = omega arith
+  count_bound costs t (suc n) f = let c = count_bound costs t n (λ k h b. f k h (omega arith)) in let p = go (made_at calls given n) (λ h. f n h (omega arith)) in omega arith
+    where
+      go : (o : Option ℕ) → ((h : ℕ) → o ≡ Some h → Valid (means t) h) → is_made o ≤ price_of means space cost t o
+      go None g = omega arith
+      go (Some h) g = let v = g h refl in let e = ap (price means space cost) v.1 in let c = costs v.0 in omega arith
+
+  pub few : ((v : Tree) → 1 ≤ cost v) → (n : ℕ) (t : S) → Lawful means space cost calls given old n t → made_count calls given n + space t ≤ space old
+  few costs n t l = let c = count_bound costs t n (λ k h b. made_there t n k h l b) in let p = l.paid in omega arith
+
+  pub small : ((s : S) → (h : ℕ) → (v : Tree) → means s h ≡ Some v → h < 4294967295) → (n : ℕ) (t : S) → Lawful means space cost calls given old n t → (k h : ℕ) → k < n → made_at calls given k ≡ Some h → h < 4294967295
+  small fits n t l k h b e = let v = made_there t n k h l b e in fits t h v.0 v.1
 
 -- what a write before leaves of the rest
 pub rest_more : (xs ys : List Answer) (i : ℕ) (r : Answer) → drop i xs ≡ drop i ys → drop (i + 1) (set xs i r) ≡ drop (i + 1) ys

@@ -54,6 +54,25 @@ made (AskUnlock h k) a = None
 made (AskSame l r) a = None
 made AskSpace a = None
 
+-- calls and their answers by number
+abbrev pub call_at : List Call → ℕ → Call
+call_at calls k = slice_index_or calls k AskSpace
+
+abbrev pub answer_at : List Answer → ℕ → Answer
+answer_at given k = slice_index_or given k (answers.Space 0)
+
+abbrev pub made_at : List Call → List Answer → ℕ → Option ℕ
+made_at calls given k = made (call_at calls k) (answer_at given k)
+
+-- how many values the first n calls made
+abbrev pub is_made : Option ℕ → ℕ
+is_made None = 0
+is_made (Some h) = 1
+
+abbrev pub made_count : List Call → List Answer → ℕ → ℕ
+made_count calls given zero = 0
+made_count calls given (suc n) = made_count calls given n + is_made (made_at calls given n)
+
 -- What an answer tells of values, where handles mean what m says: a fault tells nothing.
 module _ (m : ℕ → Option Tree) where
   abbrev pub Names : Result Tree StoreFault → Result ℕ StoreFault → Type 0
@@ -93,33 +112,24 @@ module _ {S : Type 0} (means : S → ℕ → Option Tree) (space : S → ℕ) (c
   price_of t (Some h) = price (means t h)
 
   module _ (calls : List Call) (given : List Answer) (old : S) where
-    abbrev pub call_at : ℕ → Call
-    call_at k = slice_index_or calls k AskSpace
-
-    abbrev pub answer_at : ℕ → Answer
-    answer_at k = slice_index_or given k (answers.Space 0)
-
-    abbrev pub made_at : ℕ → Option ℕ
-    made_at k = made (call_at k) (answer_at k)
-
     -- the first n calls, each with its answer, lead to a store
     pub data Performed : ℕ → S → Type 0 where
       start : Performed zero old
-      more : {n : ℕ} {t : S} → Performed n t → (u : S) → Answered t u (call_at n) (answer_at n) → Performed (suc n) u
+      more : {n : ℕ} {t : S} → Performed n t → (u : S) → Answered t u (call_at calls n) (answer_at given n) → Performed (suc n) u
 
     -- what the values cost that the first n calls made
     abbrev pub total : S → ℕ → ℕ
     total t zero = 0
-    total t (suc n) = total t n + price_of t (made_at n)
+    total t (suc n) = total t n + price_of t (made_at calls given n)
 
     -- The law of the first n calls, of the stores before and after them.
     pub record Lawful (n : ℕ) (new : S) : Type 0 where
       -- each handle that was valid keeps its value
       pub kept : (h : ℕ) → (v : Tree) → means old h ≡ Some v → means new h ≡ Some v
       -- what each answer told of values is so in the end
-      pub holds : (k : ℕ) → k < n → Tells (means new) (call_at k) (answer_at k)
+      pub holds : (k : ℕ) → k < n → Tells (means new) (call_at calls k) (answer_at given k)
       -- each value that was made has a handle that was not valid before, and that no other has
-      pub fresh : (k h : ℕ) → k < n → made_at k ≡ Some h → means old h ≡ None
-      pub own : (j k h : ℕ) → j < k → k < n → made_at j ≡ Some h → made_at k ≢ Some h
+      pub fresh : (k h : ℕ) → k < n → made_at calls given k ≡ Some h → means old h ≡ None
+      pub own : (j k h : ℕ) → j < k → k < n → made_at calls given j ≡ Some h → made_at calls given k ≢ Some h
       -- the space paid for what was made, and for nothing else
       pub paid : space new + total new n ≡ space old

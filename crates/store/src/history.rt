@@ -1,6 +1,6 @@
 // Any calls in order, on any store.
-ghost use Rattle.std.specs.Prelude.{◌≡◌, length, min, drop};
-ghost use Rattle.store.specs.History.{Answered, Performed, Lawful};
+ghost use Rattle.std.specs.Prelude.{◌≡◌, ℕ, ◌+◌, ◌<◌, ◌≤◌, Some, length, min, drop};
+ghost use Rattle.store.specs.History.{Answered, Performed, Lawful, made_at, made_count};
 
 use crate::call::{Answer, Call};
 use crate::store::Store;
@@ -26,6 +26,9 @@ pub fn answer<S: Store>(store: &mut S, call: &Call<'_>) -> Answer
 pub fn perform<S: Store>(store: &mut S, calls: &[Call<'_>], answers: &mut [Answer])
     ensures performed { Performed S.means S.space S.cost calls.now answers.new store.old (min (length calls.now) (length answers.old)) store.new }
     ensures lawful { Lawful S.means S.space S.cost calls.now answers.new store.old (min (length calls.now) (length answers.old)) store.new }
+    // as many values as there was space for, since each costs something, and no handle is the greatest number
+    ensures few { made_count calls.now answers.new (min (length calls.now) (length answers.old)) + S.space store.new ≤ S.space store.old }
+    ensures small { (k h : ℕ) → k < min (length calls.now) (length answers.old) → made_at calls.now answers.new k ≡ Some h → h < 4294967295 }
     ensures rest { drop (min (length calls.now) (length answers.old)) answers.new ≡ drop (min (length calls.now) (length answers.old)) answers.old }
 {
     for i in 0..calls.len().min(answers.len()) {

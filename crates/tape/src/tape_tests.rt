@@ -1,7 +1,9 @@
 // The byte tape through the calls of a store.
 use crate::tape::Tape;
 use std::test::Fail;
+use store::call::{Answer, Call};
 use store::fault::StoreFault;
+use store::history::perform;
 use store::shape::Shape;
 use store::store::Store;
 
@@ -131,5 +133,26 @@ fn eight_parts(rt: HostRuntime) -> Result<(), Fail> {
     let apply = tape.make_apply(0, &[two, one, one, one, one, one, one, one])?;
     assert!(rt; tape.part(apply, 8) == Err(StoreFault::NoPart));
     assert!(rt; tape.space() == 100 - 5 - 5 - 42 - 43);
+    Ok(())
+}
+
+#[test]
+fn any_calls(rt: HostRuntime) -> Result<(), Fail> {
+    let mut tape = Tape::new(rt.alloc(), 20)?;
+    let parts = [0, 0];
+    let calls = [
+        Call::MakeAtom(5),
+        Call::MakeTuple(&parts),
+        Call::MakeCrypt { text: 7, key: 5 },
+        Call::AskSame { left: 0, right: 12 },
+        Call::AskSpace,
+        Call::AskShape(5),
+    ];
+    let mut answers = [Answer::Space(9); 5];
+    perform(&mut tape, &calls, &mut answers);
+    assert!(rt; matches!(answers[1], Answer::Handle(Ok(5))));
+    assert!(rt; matches!(answers[2], Answer::Handle(Err(StoreFault::Full))));
+    assert!(rt; matches!(answers[3], Answer::Equal(Ok(true))));
+    assert!(rt; matches!(answers[4], Answer::Space(3)));
     Ok(())
 }

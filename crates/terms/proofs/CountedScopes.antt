@@ -97,5 +97,5 @@ module _ (text : List ℕ) (limits : Limits) where
   pub declared_counted : (X : syntax.Specification) (U : Scope) → declared text limits X ≡ Ok U → Counted U
   declared_counted =
       declared_kept text limits Counted
-      (record { value = named; function = functioned; right = λ S who f c. record { defined = c.defined; starts = c.starts }; start = started })
+      (record { value = named; function = λ S n ps s f e. functioned S n s; right = λ S who f c. record { defined = c.defined; starts = c.starts }; start = started })
       (record { defined = tt; starts = λ d. tt })

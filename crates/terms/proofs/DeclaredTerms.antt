@@ -66,7 +66,7 @@ module _ (text : List ℕ) (limits : Limits) where
   pub declared_listed : (spec : syntax.Specification) (U : Scope) → declared text limits spec ≡ Ok U → Listed U
   declared_listed =
       declared_kept text limits Listed
-      (record { value = λ S n kind shared. name_listed S n (Value kind shared); function = function_listed; right = right_listed; start = λ S V who t. start_listed who t S V })
+      (record { value = λ S n kind shared. name_listed S n (Value kind shared); function = λ S n ps s f e. function_listed S n s; right = right_listed; start = λ S V who t. start_listed who t S V })
       (record { names = λ n. refl; formed = tt })
 
 -- what a party starts from is among what somebody starts from

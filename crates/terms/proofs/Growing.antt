@@ -1,5 +1,7 @@
 -- Tables that grow.
-use Rattle.std.proofs.Common.{ℕ, ◌<◌, vec_items, ◌∙◌, arith}
+use Rattle.std.proofs.Common.{◌≡◌, ℕ, ◌<◌, List, length, vec_items, ap, ◌∙◌, arith}
+use Rattle.terms.specs.declared.term.TermRow.{TermRow}
+use Rattle.terms.specs.Rows.{term_tree}
 use Rattle.terms.specs.declared.table.TermTable.{TermTable}
 use Rattle.terms.specs.Shapes.{Shape}
 use Rattle.terms.specs.Interned.{Numbers}
@@ -23,6 +25,13 @@ module _ (t u : TermTable) (s : Shape) (k : ℕ) (i : Numbers (vec_items t.rows)
 
   pub number_within : k < size u
   number_within = let a = u.rows.ok.0 in let b = i.within in omega arith
+
+-- rows were refused
+pub grows_refused : (t u : TermTable) → vec_items u.rows ≡ vec_items t.rows → Grows t u
+grows_refused t u e = record {
+  longer = let a = t.rows.ok.0 in let b = u.rows.ok.0 in let c = ap length e in omega arith;
+  kept = λ j h. ap (λ (rs : List TermRow). term_tree rs j) e;
+}
 
 -- nothing but the terms changed
 pub same_on : (a b c : Declarations) → SameNames a b → SameNames b c → SameNames a c

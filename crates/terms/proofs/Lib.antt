@@ -24,3 +24,4 @@ pub mod Counted
 pub mod CountedScopes
 pub mod Parts
 pub mod Shaped
+pub mod Few

@@ -12,6 +12,7 @@ use Rattle.terms.specs.declared.declarations.Declared.{Declared}
 use Rattle.terms.specs.declared.declarations.Meaning.{Meaning}
 use Rattle.terms.specs.declared.declarations.Meaning.TheVariants as meaning
 use Rattle.terms.specs.declared.fault.TermFault.{TermFault}
+use Rattle.terms.specs.declared.fault.TermFault.TheVariants.{Limit, Undeclared, WrongType, NoMemory}
 use Rattle.terms.specs.declared.table.TermTable.{TermTable}
 use Rattle.terms.specs.Shapes as shapes
 use Rattle.terms.specs.Shapes.{named, formed, grown, AllBelow}
@@ -22,7 +23,7 @@ use Rattle.terms.specs.Numbering.{function_number, tree, trees, noted, next, rea
 use Rattle.terms.specs.Meanings.{Lists}
 use Rattle.terms.specs.Reads.{Noted, Gives, SayableAll, Reads, ReadsAll}
 use Rattle.terms.proofs.Noting.{noting}
-use Rattle.terms.proofs.Growing.{grows_on, grows_numbered, number_within}
+use Rattle.terms.proofs.Growing.{grows_numbered, grows_refused, number_within}
 
 -- a refused step refuses all
 
@@ -30,11 +31,18 @@ use Rattle.terms.proofs.Growing.{grows_on, grows_numbered, number_within}
 noted_next : (t t' : TermTable) (q : Result (List Tree) TermFault) (g : List Tree → Result (List Tree) TermFault) (n : Noted t q) → Noted t' (g n.terms) → Noted t' (next q g)
 noted_next t t' q g n m = record { terms = m.terms; is = ap (λ z. next z g) n.is ∙ m.is; lists = m.lists }
 
--- a row was numbered
-pub grows_interned : (t₀ t t' : TermTable) (s : shapes.Shape) (most at : ℕ) (r : Result ℕ TermFault) → Grows t₀ t → Interned (vec_items t.rows) (vec_items t'.rows) s most at r
-    → IfOk r (λ k. (k < size t') × Grows t₀ t')
-grows_interned t₀ t t' s most at (Ok k) g i = (number_within t t' s k i.0, grows_on t₀ t t' g (grows_numbered t t' s k i.0))
-grows_interned t₀ t t' s most at (Err f) g i = tt
+-- a row was numbered, or refused
+module _ (t t' : TermTable) (s : shapes.Shape) (most at : ℕ) where
+  pub within_interned : (r : Result ℕ TermFault) → Interned (vec_items t.rows) (vec_items t'.rows) s most at r → IfOk r (λ k. k < size t')
+  within_interned (Ok k) i = number_within t t' s k i.0
+  within_interned (Err f) i = tt
+
+  pub grows_interned : (r : Result ℕ TermFault) → Interned (vec_items t.rows) (vec_items t'.rows) s most at r → Grows t t'
+  grows_interned (Ok k) i = grows_numbered t t' s k i.0
+  grows_interned (Err (Limit p)) i = grows_refused t t' i.1
+  grows_interned (Err (Undeclared p)) i = absurd i
+  grows_interned (Err (WrongType p)) i = absurd i
+  grows_interned (Err NoMemory) i = grows_refused t t' i
 
 -- the whole, behind its parts
 module _ (t t' : TermTable) (h : Head) (ks : List ℕ) (u : Tree) (most at : ℕ) (r : Result ℕ TermFault) (small : most ≤ 65536) (i : Interned (vec_items t.rows) (vec_items t'.rows) (formed h ks) most at r) where

@@ -113,19 +113,19 @@ module _ (text : List ℕ) (d d' : Declarations) (most : ℕ) (t : Term) where
     with_good : with_term text most t S ≡ with_terms text S (read text (vec_items d.names) most t S.terms)
     with_good = ap (λ z. and_then z (with_terms text S (read text S.names most t S.terms))) (sym (c S m)) ∙ ap (λ ns. with_terms text S (read text ns most t S.terms)) (sym m.names)
 
-  pub numbered : most ≤ 65536 → ((S : Scope) → Means d S → Ok tt ≡ typed text S t Number) → (r : Result ℕ TermFault) → IfOk r (λ k. (k < size d'.terms) × Grows d.terms d'.terms) → SameNames d d' → Reads text (vec_items d.names) d.terms d'.terms t most r
+  pub numbered : most ≤ 65536 → ((S : Scope) → Means d S → Ok tt ≡ typed text S t Number) → (r : Result ℕ TermFault) → IfOk r (λ k. k < size d'.terms) → Grows d.terms d'.terms → SameNames d d' → Reads text (vec_items d.names) d.terms d'.terms t most r
       → Termed text d d' t most r
-  numbered small c (Err f) w s r = λ S m n.
+  numbered small c (Err f) w g s r = λ S m n.
       subst⁻¹ (λ z. Refused z f) (with_good small c S m) (refused_terms text S (read text (vec_items d.names) most t S.terms) f (r S.terms small m.terms (said small c S m n)))
-  numbered small c (Ok k) w s r = (
-    w.0,
-    w.1,
+  numbered small c (Ok k) w g s r = (
+    w,
+    g,
     λ S m n.
         let x = r S.terms small m.terms (said small c S m n) in
         record {
           scope = record { names = S.names; functions = S.functions; starts = S.starts; rights = S.rights; terms = x.1.terms };
           is = with_good small c S m ∙ ap (with_terms text S) x.1.is;
-          means = means_more d d' S m s w.1 x.1.terms x.1.lists;
+          means = means_more d d' S m s g x.1.terms x.1.lists;
           stands_for = x.0 ∙ ap (λ ns. tree text ns t) m.names;
         },
   )

@@ -14,9 +14,11 @@ use program::parts::Parts;
 use syntax::spec::Term;
 
 impl Declarations {
-    // The number of a term, whose types are checked first.
+    // The number of a term, whose types are checked first. A refusal too leaves all but the terms, and each earlier number its term.
     pub fn term(&mut self, text: &[u8], term: &Term, limits: Limits) -> Result<u16, TermFault>
-        ensures { Termed text.now self.old self.new (term_of term.now) (min limits.terms 512) result }
+        ensures termed { Termed text.now self.old self.new (term_of term.now) (min limits.terms 512) result }
+        ensures same { SameNames self.old self.new }
+        ensures grows { Grows self.old.terms self.new.terms }
     {
         self.check(text, term, ValueType::Number)?;
         self.number(text, term, limits.most_terms())
@@ -24,7 +26,8 @@ impl Declarations {
 
     #[cycle(number_numbers)]
     fn number(&mut self, text: &[u8], term: &Term, most: usize) -> Result<u16, TermFault>
-        ensures within { IfOk result (λ k. (k < size self.new.terms) × Grows self.old.terms self.new.terms) }
+        ensures within { IfOk result (λ k. k < size self.new.terms) }
+        ensures grows { Grows self.old.terms self.new.terms }
         ensures same { SameNames self.old self.new }
         ensures reads { Reads text.now self.old.names.items self.old.terms self.new.terms (term_of term.now) most result }
     {
@@ -68,7 +71,8 @@ impl Declarations {
     // The numbers of some terms.
     #[cycle(number_numbers)]
     fn numbers(&mut self, text: &[u8], terms: &[Term], most: usize) -> Result<Parts, TermFault>
-        ensures within { IfOk result (λ ps. AllBelow (size self.new.terms) ps × Grows self.old.terms self.new.terms) }
+        ensures within { IfOk result (λ ps. AllBelow (size self.new.terms) ps) }
+        ensures grows { Grows self.old.terms self.new.terms }
         ensures same { SameNames self.old self.new }
         ensures reads { ReadsAll text.now self.old.names.items self.old.terms self.new.terms (terms_of terms.now) most result }
     {

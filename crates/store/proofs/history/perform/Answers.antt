@@ -1,6 +1,6 @@
 use Rattle.std.proofs.Common.{◌≡◌, length, min, rules, refl}
 use Rattle.store.specs.History.{start}
-use Rattle.store.proofs.Lawfulness.{lawful, performs_more, rest_more}
+use Rattle.store.proofs.Lawfulness.{lawful, performs_more, few, small, rest_more}
 use Rattle.store.proofs.history.perform.Goals as goal
 
 pub loop-i-init : goal.loop-i-init
@@ -28,3 +28,17 @@ pub returns-clause-rest : goal.returns-clause-rest
 returns-clause-rest g c =
     let e : min (length c.args.calls.now) (length c.args.answers.now) ≡ c.loop-i.i = search rules in
     rw e c.loop-i.invariant.1
+
+pub returns-clause-few : goal.returns-clause-few
+returns-clause-few g c =
+    let m = g.S.Store in
+    let e : min (length c.args.calls.now) (length c.args.answers.now) ≡ c.loop-i.i = search rules in
+    let l = lawful m.means m.space m.cost c.args.calls.now c.loop-i.answers c.args.store.now c.loop-i.invariant.0 in
+    rw e (few m.means m.space m.cost c.args.calls.now c.loop-i.answers c.args.store.now g.met.S.Store.each_costs c.loop-i.i c.loop-i.store l)
+
+pub returns-clause-small : goal.returns-clause-small
+returns-clause-small g c =
+    let m = g.S.Store in
+    let e : min (length c.args.calls.now) (length c.args.answers.now) ≡ c.loop-i.i = search rules in
+    let l = lawful m.means m.space m.cost c.args.calls.now c.loop-i.answers c.args.store.now c.loop-i.invariant.0 in
+    rw e (small m.means m.space m.cost c.args.calls.now c.loop-i.answers c.args.store.now g.met.S.Store.each_fits c.loop-i.i c.loop-i.store l)

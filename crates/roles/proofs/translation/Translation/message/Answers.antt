@@ -9,7 +9,7 @@ use Rattle.roles.proofs.translation.Translation.message.Goals as goal
 pub say-requires-clause-fits : goal.say-requires-clause-fits
 say-requires-clause-fits c =
     let rs = vec_items c.args.self.now.roles in
-    let f = all_fit_grows c.args.self.now.declarations.terms c.term.new.self.terms c.in_ok-term.ensures.1 rs c.requires.fit in
+    let f = all_fit_grows c.args.self.now.declarations.terms c.term.new.self.terms c.in_ok-term.ensures.grows rs c.requires.fit in
     all_fit_at c.term.new.self.terms rs c.args.sender c.index_mut.result.now f c.requires.sender c.index_mut.ensures.value
 
 pub hear-requires-clause-fits : goal.hear-requires-clause-fits
@@ -17,13 +17,13 @@ hear-requires-clause-fits c =
     let rs = vec_items c.args.self.now.roles in
     let n = length-set rs c.args.sender c.say.new.self in
     let h = c.requires.receiver in
-    let f = all_fit_after c.args.self.now.declarations.terms c.term.new.self.terms c.in_ok-term.ensures.1 rs c.requires.fit c.args.sender c.say.new.self c.in_ok-say.ensures.fits in
+    let f = all_fit_after c.args.self.now.declarations.terms c.term.new.self.terms c.in_ok-term.ensures.grows rs c.requires.fit c.args.sender c.say.new.self c.in_ok-say.ensures.fits in
     all_fit_at c.term.new.self.terms _ c.args.receiver c.index_mut-2.result.now f (omega arith) c.index_mut-2.ensures.value
 
 pub returns-in_err-say : goal.returns-in_err-say
 returns-in_err-say c =
     let p = err_from_is_err_and c.from_residual-in_err-say.result c.from_residual-in_err-say.ensures.1 in
-    let g = c.in_ok-term.ensures in record {
+    let g = c.in_ok-term.ensures.termed in record {
       keeps = rw p.1 tt;
       comes = λ U m a.
           let w = g.2 U m a in
@@ -37,7 +37,7 @@ returns-in_err-say c =
 
 pub returns : goal.returns
 returns c =
-    let g = c.in_ok-term.ensures in
+    let g = c.in_ok-term.ensures.termed in
     let rs = vec_items c.args.self.now.roles in
     let n = length-set rs c.args.sender c.say.new.self in
     let h = c.requires.receiver in

@@ -1,9 +1,9 @@
-use Rattle.std.proofs.Common.{rules, vec_items, refl}
-use Rattle.rows.proofs.Asking.{no_row, first_of}
+use Rattle.std.proofs.Common.{rules, vec_items}
+use Rattle.rows.proofs.Asking.{first_of}
 use Rattle.rows.proofs.rows.Rows.first.Goals as goal
 
-pub returns-then-handle-len : goal.returns-then-handle-len
-returns-then-handle-len c = (refl, no_row (vec_items c.args.self.now.entries) c.args.handle (search rules))
-
 pub returns : goal.returns
-returns c = first_of (vec_items c.args.self.now.entries) c.args.self.now.classed c.args.handle c.entry.result (search rules) c.entry.ensures
+returns c =
+    let t = c.args.self.now in
+    let n = c.in_ok-number.ensures in
+    first_of (vec_items t.entries) t.classed c.args.handle c.in_ok-number.field-0 c.entry.result n.0 n.1 (search rules)

@@ -1,0 +1,13 @@
+pub mod Opening
+pub mod Holding
+pub mod Ending
+pub mod Stepping
+pub mod Emptying
+pub mod Lining
+pub mod Counting
+pub mod Spanning
+pub mod Moving
+pub mod Saying
+pub mod Calling
+pub mod Answering
+pub mod Beginning

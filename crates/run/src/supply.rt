@@ -1,0 +1,36 @@
+// What an action may take in: handles that arrive, and numbers for new atoms.
+ghost use Rattle.std.specs.Prelude.{◌≡◌, ◌≤◌, length, drop};
+ghost use Rattle.run.specs.Taking.{TakesFirst};
+
+#[derive(Clone, Copy)]
+pub(crate) struct Supply<'a> {
+    pub(crate) handles: &'a [u32],
+    pub(crate) numbers: &'a [u32],
+    // how many of the numbers were taken
+    pub(crate) used: usize,
+    ghost within: { used ≤ length numbers.now },
+}
+
+impl<'a> Supply<'a> {
+    // The next handle is taken.
+    pub(crate) fn handle(&mut self) -> Option<u32>
+        ensures taken { TakesFirst self.old.handles.now self.new.handles.now result }
+        ensures numbers { self.new.numbers.now ≡ self.old.numbers.now }
+        ensures used { self.new.used ≡ self.old.used }
+    {
+        let (first, rest) = self.handles.split_first()?;
+        self.handles = rest;
+        Some(*first)
+    }
+
+    // The next number is taken.
+    pub(crate) fn number(&mut self) -> Option<u32>
+        ensures taken { TakesFirst (drop self.old.used self.old.numbers.now) (drop self.new.used self.new.numbers.now) result }
+        ensures numbers { self.new.numbers.now ≡ self.old.numbers.now }
+        ensures handles { self.new.handles.now ≡ self.old.handles.now }
+    {
+        let number = *self.numbers.get(self.used)?;
+        self.used += 1;
+        Some(number)
+    }
+}

@@ -1,0 +1,136 @@
+-- New runs of a translation's roles are new runs of its specification.
+use Rattle.std.proofs.Common.{◌≡◌, ℕ, ◌<◌, ◌≤◌, true, cond, List, [], ◌∷◌, length, map, get_or, take, vec_items, Vec, Ok, sym, refl, ap, ap₂, ◌∙◌, subst, arith, Err, ◌++◌}
+use Rattle.std.specs.declared.alloc.AllocError.{AllocError}
+use Rattle.std.specs.declared.alloc.Global.{Global}
+use Rattle.std.proofs.lemmas.Bool.{lt-ltb}
+use Rattle.std.proofs.lemmas.List.{length-map}
+use Rattle.std.proofs.Math.ListN.{get_or-map}
+use mathlib.Core.Path.{subst⁻¹}
+use Rattle.model.specs.Lists.{Every}
+use Rattle.model.specs.Trees.{Tree}
+use Rattle.model.specs.Specifications.{Specification}
+use Rattle.model.specs.Programs.{program}
+use Rattle.model.specs.Sessions.{Event, new_runs}
+use Rattle.model.proofs.SessionLaw.{session_law}
+use Rattle.program.specs.Held.{passes}
+use Rattle.terms.specs.declared.declarations.Function.{Function}
+use Rattle.terms.specs.declared.limits.Limits.{Limits}
+use Rattle.terms.specs.Counts.{counts}
+use Rattle.terms.specs.Meanings.{signature_of}
+use Rattle.terms.specs.Scope.{Scope, Signature}
+use Rattle.terms.proofs.Few.{declared_few}
+use Rattle.roles.specs.declared.role.Role.{Role}
+use Rattle.roles.specs.declared.translation.Translation.{Translation}
+use Rattle.roles.specs.Holding.{counts_of, AllHeld}
+use Rattle.roles.specs.Players.{player_of}
+use Rattle.roles.specs.Playing.{Player}
+use Rattle.roles.specs.Specified.{specified}
+use Rattle.roles.specs.Stages.{Stage}
+use Rattle.roles.specs.Staging.{stage_of, players_of, Staged}
+use Rattle.roles.specs.Translating.{translation}
+use Rattle.roles.specs.TranslationLaw.{Translated, TranslationLaw}
+use Rattle.roles.proofs.AllHeld.{Accepts, accepts}
+use Rattle.roles.proofs.Translated.{accepted_so_far}
+use Rattle.run.specs.declared.run.Run.{Run}
+use Rattle.run.specs.Called.{Shows}
+use Rattle.run.specs.Plain.{new_plain}
+use Rattle.run.specs.Shown.{Meaning}
+use Rattle.sessions.specs.declared.reply.Reply.{Reply}
+use Rattle.sessions.specs.declared.request.Request.{Request}
+use Rattle.sessions.specs.Going.{Begins, Goes}
+use Rattle.sessions.specs.Performing.{Performed}
+use Rattle.sessions.specs.Plays.{Playing, plays_of, no_run}
+use Rattle.sessions.specs.Traces.{Trace, start}
+use Rattle.sessions.specs.Starting.{short_count, IsNew, NewRuns}
+use Rattle.sessions.proofs.PlainLaw.{plain_law}
+use Rattle.sessions.proofs.Zips.{zip_long, zip_at}
+
+-- a byte holds the count of each function
+short_counts : (fs : List Function) → Every (λ (s : Signature). length s.parameters ≤ 8) (map signature_of fs) → map short_count fs ≡ counts (map signature_of fs)
+short_counts [] h = refl
+short_counts (f ∷ fs) h = let e : short_count f ≡ length (vec_items f.parameters) = omega (arith, h.0) in ap₂ (λ (n : ℕ) (ns : List ℕ). n ∷ ns) e (short_counts fs h.1)
+
+-- one of a list
+any : {A : Type 0} (xs : List A) (k : ℕ) → k < length xs → A
+any [] k l = absurd (omega arith)
+any (x ∷ xs) k l = x
+
+module _ (limits : Limits) (text : List ℕ) (T : Translation) (s : Staged (translation limits text) T) where
+  abbrev G : Stage
+  G = stage_of T s.scope
+
+  a : Accepts limits text G
+  a = accepts limits text G s.is
+
+  -- the counts of the parts of a translation's functions
+  pub counts_short : map short_count (vec_items T.declarations.functions) ≡ counts_of T
+  counts_short = short_counts (vec_items T.declarations.functions) (subst⁻¹ (Every (λ (x : Signature). length x.parameters ≤ 8)) (s.means.functions ∙ ap (λ (z : Scope). z.functions) (accepted_so_far text limits a.spec a.scope a.declares.scope a.spec.lines [] G a.lined).scope)
+      (declared_few text limits a.declares.tree a.spec a.scope a.declares.shaped a.declares.scope))
+
+  -- its programs can be held with these
+  pub can_be_held : AllHeld T → (cs : List ℕ) → cs ≡ map short_count (vec_items T.declarations.functions) → Every (λ (r : Role). passes cs (vec_items r.rows) ≡ true) (vec_items T.roles)
+  can_be_held h cs e = subst⁻¹ (λ cs. Every (λ (r : Role). passes cs (vec_items r.rows) ≡ true) (vec_items T.roles)) (e ∙ counts_short) h.each
+
+  module _ (law : TranslationLaw limits text) where
+    abbrev X : Specification
+    X = specified text a.scope a.spec.lines
+
+    w : Translated text a.scope a.spec.lines G
+    w = law.translates a.spec a.scope G a.declares a.lined
+
+    -- new runs of the roles stand where new runs of the specification do
+    runs_stand : (runs : List Run) → NewRuns (vec_items T.roles) runs → (m : Meaning) (n k : ℕ) (run : Run) → k < length runs → Shows m (get_or runs k run) ((plays_of (new_runs X n)).runs k)
+    runs_stand runs z m n k run l =
+        subst (λ (p : Playing). Shows m (get_or runs k run) (p.runs k)) (plain_law X w.accepted (λ t. 1) n []).state
+        (subst⁻¹ (λ b. Shows m (get_or runs k run) (cond b (new_plain (program X k)) no_run)) (lt-ltb k X.roles inside)
+        (subst (λ xs. Shows m (get_or runs k run) (new_plain xs)) rows (zip_at IsNew (vec_items T.roles) runs k role run l z m)))
+      where
+        long : length runs ≡ length (vec_items T.roles)
+        long = zip_long IsNew (vec_items T.roles) runs z
+
+        many : length (players_of T) ≡ length (vec_items T.roles)
+        many = length-map (vec_items T.roles) (player_of T.declarations.terms)
+
+        inside : k < X.roles
+        inside = omega (arith, l, long, many, w.many)
+
+        role : Role
+        role = any (vec_items T.roles) k (omega (arith, l, long))
+
+        player : Role → Player
+        player = player_of T.declarations.terms
+
+        rows : (player (get_or (vec_items T.roles) k role)).rows ≡ program X k
+        rows = ap (λ (p : Player). p.rows) (sym (get_or-map player (vec_items T.roles) k role)) ∙ (w.each k (player role) (omega (arith, l, long, many))).rows
+
+    module _ {S : Type 0} (means : S → Meaning) (space : S → ℕ) (cost : Tree → ℕ) (old : S) where
+      -- what was performed
+      traced : (new : S) (qs : List Request) (rs : List Reply) (es : List Event) → Trace means space cost X old qs new rs es → Performed means space cost limits text qs old new rs
+      traced new qs rs es t = record {
+        spec = a.spec;
+        scope = a.scope;
+        stage = G;
+        declares = a.declares;
+        accepted = a.lined;
+        events = es;
+        trace = t;
+        lawful = λ ds rest e. session_law X w.accepted cost (space old) ds;
+      }
+
+      -- nothing yet
+      pub nothing_traced : (qs : List Request) → (count : ℕ) × (rs : List Reply) × Performed means space cost limits text (take count qs) old old rs
+      nothing_traced qs = (0, [], traced old [] [] [] start)
+
+      module _ (new : S) (requests : List Request) (runs runs' : List Run) (z : NewRuns (vec_items T.roles) runs) where
+        begins : Begins means space cost X old runs
+        begins = record {
+          accepted = w.accepted;
+          many = zip_long IsNew (vec_items T.roles) runs z ∙ sym (length-map (vec_items T.roles) (player_of T.declarations.terms)) ∙ w.many;
+          stands = record { space = refl; each = λ k run l. runs_stand runs z (means old) (space old) k run l };
+        }
+
+        pub performed : (replies : Vec Reply Global) → Goes means space cost old new runs runs' requests (Ok replies) → Performed means space cost limits text requests old new (vec_items replies)
+        performed replies g = let x = g X begins in traced new requests (vec_items replies) x.events x.trace
+
+        pub began : (e : AllocError) → Goes means space cost old new runs runs' requests (Err e) → (count : ℕ) × (rs : List Reply) × Performed means space cost limits text (take count requests) old new rs
+        began e g = let x = g X begins in (x.count, x.replies, traced new (take x.count requests) x.replies x.events x.trace)

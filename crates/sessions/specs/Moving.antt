@@ -1,0 +1,19 @@
+-- What one request does, where the runs of a session stand.
+use Rattle.std.specs.Prelude.{◌≡◌, ℕ, List, length, Ok, Err, Result}
+use Rattle.std.specs.declared.alloc.AllocError.{AllocError}
+use Rattle.model.specs.Trees.{Tree}
+use Rattle.run.specs.declared.run.Run.{Run}
+use Rattle.run.specs.Shown.{Meaning}
+use Rattle.sessions.specs.declared.reply.Reply.{Reply}
+use Rattle.sessions.specs.declared.request.Request.{Request}
+use Rattle.sessions.specs.Requests.{event_of}
+use Rattle.sessions.specs.Replying.{Replies}
+use Rattle.sessions.specs.Standing.{Moves}
+
+module _ {S : Type 0} (means : S → Meaning) (space : S → ℕ) (cost : Tree → ℕ) where
+  -- the event that the request is, and its reply; want of memory shows before anything is done
+  abbrev pub Does : S → S → List Run → List Run → List Reply → Request → Result Reply AllocError → Type 0
+  Does old new runs runs' rs q (Ok r) =
+      Moves means space cost old new runs runs' (event_of (length runs) (means old) rs q)
+      (λ memories answer. Replies means space cost (length runs) memories answer rs old new q r)
+  Does old new runs runs' rs q (Err e) = new ≡ old

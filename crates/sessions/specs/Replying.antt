@@ -1,0 +1,72 @@
+-- What a request does to a store and what it is replied, beside the model's answer.
+use Rattle.std.specs.Prelude.{◌≡◌, ℕ, cond, List, [], ◌∷◌, Ok, Err, Result, nat_lt, vec_items}
+use Rattle.std.proofs.Math.Option.{Option, none as nothing, some}
+use Rattle.model.specs.Trees.{tupled, crypted, applied, Tree, leaf}
+use Rattle.model.specs.Runs.{Memory}
+use Rattle.model.specs.Sessions.{Answer}
+use Rattle.store.specs.declared.fault.StoreFault.{StoreFault}
+use Rattle.store.specs.Makers.{wanted, Makes}
+use Rattle.store.specs.Questions.{shape_answer, part_value, unlocked_value, same_answer, Answers}
+use Rattle.run.specs.declared.fault.RunFault.{RunFault}
+use Rattle.run.specs.declared.fault.RunFault.TheVariants.{OutOfTurn, Counts}
+use Rattle.run.specs.Called.{said, did, unsaid}
+use Rattle.run.specs.Shown.{Meaning, as_option}
+use Rattle.sessions.specs.declared.reply.Reply.{Reply}
+use Rattle.sessions.specs.declared.reply.Reply.TheVariants as replies
+use Rattle.sessions.specs.declared.request.Request.{Request}
+use Rattle.sessions.specs.declared.request.Request.TheVariants.{Begin, Say, Hear, Register, Atom, Tuple, Crypt, Apply, Shape, Part, Unlock, Same, Space}
+use Rattle.sessions.specs.Requests.{handle_of, handles_of}
+
+-- a store's answer as a reply
+abbrev pub reply_by : {A : Type 0} → (A → Reply) → Result A StoreFault → Reply
+reply_by f (Ok x) = f x
+reply_by f (Err e) = replies.Store e
+
+-- a run's answer as a reply
+abbrev pub reply_of : {A : Type 0} → (A → Reply) → Result A RunFault → Reply
+reply_of f (Ok x) = f x
+reply_of f (Err e) = replies.Run e
+
+-- a begin or a hear is taken, or refused with this number and place
+abbrev pub Took : Answer → Reply → Type 0
+Took a r = (x : Result (Unit {0}) RunFault) × (unsaid a ≡ did x) × (r ≡ reply_of (λ u. replies.Done) x)
+
+-- a say is taken, and its handle names the value said; or it is refused
+abbrev pub Told : Meaning → Answer → Reply → Type 0
+Told m a r = (x : Result ℕ RunFault) × (a ≡ said m x) × (r ≡ reply_of replies.Handle x)
+
+-- a register's handle names its value
+abbrev pub Looked : Meaning → Option Tree → Reply → Type 0
+Looked m nothing r = r ≡ replies.Empty
+Looked m (some v) r = (h : ℕ) × (r ≡ replies.Handle h) × (as_option (m h) ≡ some v)
+
+-- out of turn, or with wrong counts, nothing is altered
+abbrev pub Untouched : {S : Type 0} → S → S → Reply → Type 0
+Untouched old new (replies.Run (OutOfTurn p)) = new ≡ old
+Untouched old new (replies.Run (Counts p)) = new ≡ old
+Untouched old new reply = Unit {0}
+
+module _ {S : Type 0} (means : S → Meaning) (space : S → ℕ) (cost : Tree → ℕ) where
+  -- what a call that makes a value does
+  abbrev pub Made : S → S → Result Tree StoreFault → Reply → Type 0
+  Made old new v r = (x : Result ℕ StoreFault) × Makes means space cost old new v x × (r ≡ reply_by replies.Handle x)
+
+  -- a question about a handle
+  abbrev pub Found : S → S → Result Tree StoreFault → Reply → Type 0
+  Found old new v r = (new ≡ old) × (x : Result ℕ StoreFault) × Answers (means old) v x × (r ≡ reply_by replies.Handle x)
+
+  module _ (roles : ℕ) (memories : ℕ → Memory) (answer : Answer) (rs : List Reply) (old new : S) where
+    abbrev pub Replies : Request → Reply → Type 0
+    Replies (Begin r given numbers) reply = cond (nat_lt r roles) (Took answer reply × Untouched old new reply) ((new ≡ old) × (reply ≡ replies.NoRole))
+    Replies (Say r) reply = cond (nat_lt r roles) (Told (means new) answer reply × Untouched old new reply) ((new ≡ old) × (reply ≡ replies.NoRole))
+    Replies (Hear r h) reply = cond (nat_lt r roles) (Took answer reply × Untouched old new reply) ((new ≡ old) × (reply ≡ replies.NoRole))
+    Replies (Register r n) reply = (new ≡ old) × cond (nat_lt r roles) (Looked (means old) (memories r n) reply) (reply ≡ replies.NoRole)
+    Replies (Atom n) reply = Made old new (Ok (leaf n)) reply
+    Replies (Tuple parts) reply = Made old new (wanted (means old) tupled (handles_of rs (vec_items parts))) reply
+    Replies (Crypt text key) reply = Made old new (wanted (means old) crypted (handle_of rs text ∷ handle_of rs key ∷ [])) reply
+    Replies (Apply f parts) reply = Made old new (wanted (means old) (applied f) (handles_of rs (vec_items parts))) reply
+    Replies (Shape h) reply = (new ≡ old) × (reply ≡ reply_by replies.Shape (shape_answer (means old (handle_of rs h))))
+    Replies (Part h i) reply = Found old new (part_value (means old (handle_of rs h)) i) reply
+    Replies (Unlock h k) reply = Found old new (unlocked_value (means old (handle_of rs h)) (means old (handle_of rs k))) reply
+    Replies (Same h k) reply = (new ≡ old) × (reply ≡ reply_by replies.Same (same_answer (means old (handle_of rs h)) (means old (handle_of rs k))))
+    Replies Space reply = (new ≡ old) × (reply ≡ replies.Space (space old))

@@ -1,0 +1,22 @@
+-- The runs of a session in a store, as plain runs over one space.
+use Rattle.std.specs.Prelude.{◌≡◌, ℕ, ◌<◌, List, length, slice_index_or}
+use Rattle.model.specs.Trees.{Tree}
+use Rattle.model.specs.Runs.{Memory}
+use Rattle.model.specs.Sessions.{Event, Answer}
+use Rattle.run.specs.declared.run.Run.{Run}
+use Rattle.run.specs.Called.{Shows}
+use Rattle.run.specs.Shown.{Meaning, Kept}
+use Rattle.sessions.specs.Plays.{Playing, play}
+
+-- they show plain runs
+pub record Stands (m : Meaning) (free : ℕ) (runs : List Run) (p : Playing) : Type 0 where
+  pub space : p.space ≡ free
+  pub each : (k : ℕ) (run : Run) → k < length runs → Shows m (slice_index_or runs k run) (p.runs k)
+
+module _ {S : Type 0} (means : S → Meaning) (space : S → ℕ) (cost : Tree → ℕ) where
+  -- an event takes runs and a store to what it does to the plain runs; what is replied depends on their registers and on the answer
+  pub record Moves (old new : S) (runs runs' : List Run) (e : Event) (Replied : (ℕ → Memory) → Answer → Type 0) : Type 0 where
+    pub kept : Kept (means old) (means new)
+    pub many : length runs' ≡ length runs
+    pub stands : (p : Playing) → Stands (means old) (space old) runs p → Stands (means new) (space new) runs' (play cost p e).0
+    pub replied : (p : Playing) → Stands (means old) (space old) runs p → Replied (λ r. (p.runs r).memory) (play cost p e).1

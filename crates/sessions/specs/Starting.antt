@@ -1,0 +1,21 @@
+-- New runs of some roles.
+use Rattle.std.specs.Prelude.{ℕ, min, List, map, length, vec_items}
+use Rattle.std.specs.List.{AllZip}
+use Rattle.terms.specs.declared.declarations.Function.{Function}
+use Rattle.roles.specs.declared.role.Role.{Role}
+use Rattle.run.specs.declared.run.Run.{Run}
+use Rattle.run.specs.Called.{Shows}
+use Rattle.run.specs.Filling.{lined}
+use Rattle.run.specs.Plain.{new_plain}
+use Rattle.run.specs.Shown.{Meaning}
+
+-- how many parts a function takes, in a byte
+abbrev pub short_count : Function → ℕ
+short_count f = min (length (vec_items f.parameters)) 255
+
+-- one run for each role, of its rows, before its begin, in every store
+abbrev pub IsNew : Role → Run → Type 0
+IsNew role run = (m : Meaning) → Shows m run (new_plain (map lined (vec_items role.rows)))
+
+abbrev pub NewRuns : List Role → List Run → Type 0
+NewRuns roles runs = AllZip IsNew roles runs
