@@ -91,14 +91,14 @@ module _ {S : Type 0} (means : S → Meaning) (space : S → ℕ) (cost : Tree �
         (record { memory = holds_set (means store) cells N.mem t h v room e shown.memory; space = shown.space; inputs = shown.inputs; numbers = shown.numbers }))
 
     -- a handle that arrived is taken
-    pub takes_ends : Shown (means store) (space store) cells supply M → (hs : List ℕ) (vs : List Tree) → StandFor (means store) hs vs → (o : Option ℕ) → TakesFirst hs supply'.handles.now o
-        → supply'.numbers.now ≡ supply.numbers.now → supply'.used ≡ supply.used → Keeps cells cells' t (ok_or o Invalid) result → Ends means space cost store store cells' supply' (take_input t M vs) result
-    takes_ends shown [] [] s None g n u k = subst⁻¹ (λ x. Ends means space cost store store cells' supply' (runs.refused invalid) x) k.1 (refl, refl)
-    takes_ends shown [] [] s (Some h) g n u k = absurd g
+    pub takes_ends : Shown (means store) (space store) cells supply M → (hs : List ℕ) (vs : List Tree) → StandFor (means store) hs vs → (o : Result ℕ StoreFault) → TakesFirst hs supply'.handles.now o
+        → supply'.numbers.now ≡ supply.numbers.now → supply'.used ≡ supply.used → Keeps cells cells' t o result → Ends means space cost store store cells' supply' (take_input t M vs) result
+    takes_ends shown [] [] s (Err e) g n u k = refuses (Err e) k e refl invalid (ap store_number g.0)
+    takes_ends shown [] [] s (Ok h) g n u k = absurd g
     takes_ends shown [] (v ∷ vs) s o g n u k = absurd s
     takes_ends shown (h ∷ hs) [] s o g n u k = absurd s
-    takes_ends shown (h ∷ hs) (v ∷ vs) s None g n u k = absurd g
-    takes_ends shown (h ∷ hs) (v ∷ vs) s (Some x) g n u k =
+    takes_ends shown (h ∷ hs) (v ∷ vs) s (Err e) g n u k = absurd g
+    takes_ends shown (h ∷ hs) (v ∷ vs) s (Ok x) g n u k =
         sets (record { mem = M.mem; space = M.space; inputs = vs; numbers = M.numbers })
         (record { memory = shown.memory; space = shown.space; inputs = subst⁻¹ (λ l. StandFor (means store) l vs) g.1 s.1; numbers = shown.numbers ∙ ap₂ drop (sym u) (sym n) })
         v x (ap (means store) g.0 ∙ s.0) k

@@ -1,9 +1,10 @@
 -- What one action does.
-use Rattle.std.proofs.Common.{◌≡◌, ℕ, ◌<◌, ◌≤◌, true, false, Some, None, Ok, Err, Option, Result, ok_or, option_map, if◌then◌else◌, List, [], ◌∷◌, length, map, drop, sym, refl, ap, subst, le-leb}
+use Rattle.std.proofs.Common.{◌≡◌, ℕ, ◌<◌, ◌≤◌, true, false, Some, None, Ok, Err, Option, Result, ok_or, option_map, if◌then◌else◌, List, [], ◌∷◌, length, map, drop, sym, refl, ap, subst, le-leb, arith}
+use Rattle.std.proofs.lemmas.List.{length-map}
 use mathlib.Core.Path.{subst⁻¹}
 use Rattle.model.specs.Trees.{Head, tupled, crypted, applied, Tree, leaf, node}
 use Rattle.model.specs.Roles.{count, make}
-use Rattle.model.specs.Runs.{Machine, pay, need, need_all, take_input, take_number, open_up, open_crypt, reads, step}
+use Rattle.model.specs.Runs.{Machine, broken, refused, pay, need, need_all, take_input, take_number, open_up, open_crypt, reads, step}
 use Rattle.program.specs.declared.action.Action.{Action}
 use Rattle.program.specs.declared.action.Action.TheVariants.{Give, New, Hear, OpenCrypt, OpenTuple, OpenApply}
 use Rattle.program.specs.Actions.{act_of}
@@ -14,73 +15,76 @@ use Rattle.store.specs.declared.fault.StoreFault.TheVariants.{Invalid, NoPart}
 use Rattle.store.specs.declared.shape.Shape.{Shape}
 use Rattle.store.specs.declared.shape.Shape.TheVariants as shapes
 use Rattle.store.specs.Makers.{Makes, gathered, wanted}
+use Rattle.store.specs.Numbers.{fault_number as store_number}
 use Rattle.store.specs.Questions.{Answers, unlocked_value, shape_of}
 use Rattle.run.specs.declared.fault.StepFault.{StepFault}
 use Rattle.run.specs.declared.supply.Supply.{Supply}
 use Rattle.run.specs.Shown.{Meaning, Small, as_option, register, StandFor, Kept, Shown}
 use Rattle.run.specs.Taking.{TakesFirst}
-use Rattle.run.specs.Stepped.{Keeps, Ends, Opens, Stepped, parts_within}
+use Rattle.run.specs.Stepped.{Keeps, Builds, Ends, Opens, Stepped, next_atom, parts_within}
 use Rattle.run.proofs.Holding.{held, read_all, filled_size, filled_other}
-use Rattle.run.proofs.Ending.{keeps_size, keeps_other, makes_kept, made_ends, built_ends, takes_ends, unlocks_ends, tuple_ends, apply_ends}
+use Rattle.run.proofs.Ending.{with_numbers, keeps_size, keeps_other, makes_kept, made_ends, built_ends, takes_ends, unlocks_ends, tuple_ends, apply_ends}
 
 abbrev pub Room : Action → List ℕ → Type 0
 Room action cells = (r : ℕ) → has r (fills action) ≡ true → r < length cells
 
 module _ {S : Type 0} (means : S → Meaning) (space : S → ℕ) (cost : Tree → ℕ) (small : (s : S) → Small (means s)) (old new : S) (cells cells' : List ℕ) (supply supply' : Supply) (result : Result (Unit {0}) StepFault) where
   -- a handle that arrived is taken
-  module _ (t : ℕ) (o : Option ℕ) (takes : TakesFirst supply.handles.now supply'.handles.now o) (numbers : supply'.numbers.now ≡ supply.numbers.now) (used : supply'.used ≡ supply.used) (k : Keeps cells cells' t (ok_or o Invalid) result) where
+  module _ (t : ℕ) (o : Result ℕ StoreFault) (takes : TakesFirst supply.handles.now supply'.handles.now o) (numbers : supply'.numbers.now ≡ supply.numbers.now) (used : supply'.used ≡ supply.used) (k : Keeps cells cells' t o result) where
     taken : t < length cells → (M : Machine) → Shown (means old) (space old) cells supply M → Ends means space cost old old cells' supply' (take_input t M M.inputs) result
     taken room M shown = takes_ends means space cost old cells cells' supply supply' M t room result shown supply.handles.now M.inputs shown.inputs o takes numbers used k
 
     pub give_stepped : Room (Give t) cells → Stepped means space cost (Give t) old old cells cells' supply supply' result
     give_stepped room = record {
       kept = λ h v e. e;
-      size = keeps_size cells cells' t (ok_or o Invalid) result k;
+      size = keeps_size cells cells' t o result k;
       numbers = numbers;
-      other = keeps_other cells cells' t (ok_or o Invalid) result k;
+      other = keeps_other cells cells' t o result k;
       done = taken (room t (has_first t []));
     }
 
     pub hear_stepped : Room (Hear t) cells → Stepped means space cost (Hear t) old old cells cells' supply supply' result
     hear_stepped room = record {
       kept = λ h v e. e;
-      size = keeps_size cells cells' t (ok_or o Invalid) result k;
+      size = keeps_size cells cells' t o result k;
       numbers = numbers;
-      other = keeps_other cells cells' t (ok_or o Invalid) result k;
+      other = keeps_other cells cells' t o result k;
       done = taken (room t (has_first t []));
     }
 
   -- a new atom is made
-  pub new_stepped : (t n : ℕ) (made : Result ℕ StoreFault) → TakesFirst (drop supply.used supply.numbers.now) (drop supply'.used supply'.numbers.now) (Some n) → supply'.numbers.now ≡ supply.numbers.now → supply'.handles.now ≡ supply.handles.now
-      → Makes means space cost old new (Ok (leaf n)) made → Keeps cells cells' t made result → Room (New t) cells → Stepped means space cost (New t) old new cells cells' supply supply' result
-  new_stepped t n made takes numbers handles makes k room = record {
-    kept = makes_kept means space cost old new (Ok (leaf n)) made makes;
+  pub new_stepped : (t : ℕ) (made : Result ℕ StoreFault) → Makes means space cost old new (next_atom (drop supply.used supply.numbers.now)) made → drop supply'.used supply'.numbers.now ≡ drop 1 (drop supply.used supply.numbers.now)
+      → supply'.numbers.now ≡ supply.numbers.now → supply'.handles.now ≡ supply.handles.now → Keeps cells cells' t made result → Room (New t) cells → Stepped means space cost (New t) old new cells cells' supply supply' result
+  new_stepped t made makes taken numbers handles k room = record {
+    kept = makes_kept means space cost old new (next_atom (drop supply.used supply.numbers.now)) made makes;
     size = keeps_size cells cells' t made result k;
     numbers = numbers;
     other = keeps_other cells cells' t made result k;
-    done = λ M shown. subst⁻¹ (λ ns. Ends means space cost old new cells' supply' (take_number cost t M ns) result) shown.numbers (go M shown (drop supply.used supply.numbers.now) takes);
+    done = λ M shown. subst⁻¹ (λ ns. Ends means space cost old new cells' supply' (take_number cost t M ns) result) shown.numbers (go M shown (drop supply.used supply.numbers.now) taken made makes k);
   }
     where
-      go : (M : Machine) → Shown (means old) (space old) cells supply M → (ns : List ℕ) → TakesFirst ns (drop supply'.used supply'.numbers.now) (Some n) → Ends means space cost old new cells' supply' (take_number cost t M ns) result
-      go M shown [] f = absurd f
-      go M shown (x ∷ ns) f =
-          subst (λ y. Ends means space cost old new cells' supply' (pay cost t (leaf y) (record { mem = M.mem; space = M.space; inputs = M.inputs; numbers = ns })) result) f.0
-          (made_ends means space cost old new cells cells' supply' (record { mem = M.mem; space = M.space; inputs = M.inputs; numbers = ns })
-          (record { memory = shown.memory; space = shown.space; inputs = subst⁻¹ (λ hs. StandFor (means old) hs M.inputs) handles shown.inputs; numbers = sym f.1 })
-          t (room t (has_first t [])) result (leaf n) made makes k)
+      go : (M : Machine) → Shown (means old) (space old) cells supply M → (ns : List ℕ) → drop supply'.used supply'.numbers.now ≡ drop 1 ns → (r : Result ℕ StoreFault) → Makes means space cost old new (next_atom ns) r → Keeps cells cells' t r result
+          → Ends means space cost old new cells' supply' (take_number cost t M ns) result
+      go M shown [] rest (Ok h) d e = absurd d
+      go M shown [] rest (Err f) d e =
+          subst⁻¹ (λ x. Ends means space cost old new cells' supply' (refused broken) x) e.1 (ap store_number d.0, ap space d.1)
+      go M shown (x ∷ ns) rest r d e =
+          made_ends means space cost old new cells cells' supply' (with_numbers ns M)
+          (record { memory = shown.memory; space = shown.space; inputs = subst⁻¹ (λ hs. StandFor (means old) hs M.inputs) handles shown.inputs; numbers = sym rest })
+          t (room t (has_first t [])) result (leaf x) r d e
 
   -- a compound is built of the values of some registers
-  module _ (t : ℕ) (h : Head) (rs hs : List ℕ) (few : length hs ≤ 8) (handles : hs ≡ map (λ r. register cells r) rs) (made : Result ℕ StoreFault) (makes : Makes means space cost old new (wanted (means old) h hs) made)
-      (k : Keeps cells cells' t made result) where
+  module _ (t : ℕ) (h : Head) (rs : List ℕ) (few : length rs ≤ 8) (b : Builds means space cost h rs t old new cells cells' result) where
     pub built : t < length cells → (M : Machine) → Shown (means old) (space old) cells supply M → Ends means space cost old new cells' supply (need_all (reads M.mem rs) (λ vs. pay cost t (node h vs) M)) result
     built room M shown =
+        let hs = map (λ r. register cells r) rs in
         subst⁻¹ (λ o. Ends means space cost old new cells' supply (need_all o (λ vs. pay cost t (node h vs) M)) result) (read_all (means old) (small old) cells M.mem shown.memory rs)
-        (subst (λ l. Ends means space cost old new cells' supply (need_all (as_option (gathered (means old) l)) (λ vs. pay cost t (node h vs) M)) result) handles
-        (built_ends means space cost old new cells cells' supply M shown t room result h (gathered (means old) hs) made
-        (subst (λ b. Makes means space cost old new (if b then ok_or (option_map (node h) (gathered (means old) hs)) Invalid else Err NoPart) made) (le-leb (length hs) 8 few) makes) k))
+        (built_ends means space cost old new cells cells' supply M shown t room result h (gathered (means old) hs) b.made
+        (subst (λ w. Makes means space cost old new (if w then ok_or (option_map (node h) (gathered (means old) hs)) Invalid else Err NoPart) b.made)
+        (le-leb (length hs) 8 (omega (arith, few, length-map rs (λ r. register cells r)))) b.makes) b.keeps)
 
     pub built_kept : Kept (means old) (means new)
-    built_kept = makes_kept means space cost old new (wanted (means old) h hs) made makes
+    built_kept = makes_kept means space cost old new (wanted (means old) h (map (λ r. register cells r) rs)) b.made b.makes
 
   -- an action that fills one register
   module _ (action : Action) (t : ℕ) (one : fills action ≡ t ∷ []) (made : Result ℕ StoreFault) (k : Keeps cells cells' t made result) (room : Room action cells) where
@@ -99,14 +103,14 @@ module _ {S : Type 0} (means : S → Meaning) (space : S → ℕ) (cost : Tree �
 
 module _ {S : Type 0} (means : S → Meaning) (space : S → ℕ) (cost : Tree → ℕ) (small : (s : S) → Small (means s)) (cells cells' : List ℕ) (supply : Supply) (result : Result (Unit {0}) StepFault) (action : Action) (room : Room action cells) where
   -- a compound is built of the values of some registers
-  pub build_stepped : (old new : S) (t : ℕ) → fills action ≡ t ∷ [] → (h : Head) (rs hs : List ℕ) → act_of action ≡ make t h rs → length hs ≤ 8 → hs ≡ map (λ r. register cells r) rs → (made : Result ℕ StoreFault)
-      → Makes means space cost old new (wanted (means old) h hs) made → Keeps cells cells' t made result → Stepped means space cost action old new cells cells' supply supply result
-  build_stepped old new t one h rs hs acts few handles made makes k =
-      one_stepped means space cost small old new cells cells' supply supply result action t one made k room refl
-      (built_kept means space cost small old new cells cells' supply supply result t h rs hs few handles made makes k)
+  pub build_stepped : (old new : S) (t : ℕ) → fills action ≡ t ∷ [] → (h : Head) (rs : List ℕ) → act_of action ≡ make t h rs → length rs ≤ 8 → Builds means space cost h rs t old new cells cells' result
+      → Stepped means space cost action old new cells cells' supply supply result
+  build_stepped old new t one h rs acts few b =
+      one_stepped means space cost small old new cells cells' supply supply result action t one b.made b.keeps room refl
+      (built_kept means space cost small old new cells cells' supply supply result t h rs few b)
       (λ M shown. subst⁻¹ (λ a. Ends means space cost old new cells' supply (step cost a M) result) acts
-      (built means space cost small old new cells cells' supply supply result t h rs hs few handles made makes k
-      (in_room means space cost small old new cells cells' supply supply result action t one made k room) M shown))
+      (built means space cost small old new cells cells' supply supply result t h rs few b
+      (in_room means space cost small old new cells cells' supply supply result action t one b.made b.keeps room) M shown))
 
   -- a ciphertext is opened
   pub unlock_stepped : (store : S) (x r k : ℕ) → action ≡ OpenCrypt x r k → (text : Result ℕ StoreFault)

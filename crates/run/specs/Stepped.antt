@@ -1,7 +1,7 @@
 -- What an action does to the store and the registers.
 use Rattle.std.specs.Prelude.{◌≡◌, ◌≢◌, ◌==◌, if◌then◌else◌, ℕ, suc, true, false, List, [], ◌∷◌, length, map, Ok, Err, Some, None, slice_set}
 use Rattle.std.specs.Prelude as std
-use Rattle.model.specs.Trees.{tupled, crypted, applied, Tree, leaf, node, Trees, none, more, eq_tree}
+use Rattle.model.specs.Trees.{Head, tupled, crypted, applied, Tree, leaf, node, Trees, none, more, eq_tree}
 use Rattle.model.specs.Runs.{Machine, Result, ran, refused, step}
 use Rattle.program.specs.declared.action.Action.{Action}
 use Rattle.program.specs.Actions.{act_of}
@@ -9,6 +9,8 @@ use Rattle.program.specs.Held.{has, fills}
 use Rattle.store.specs.declared.fault.StoreFault.{StoreFault}
 use Rattle.store.specs.declared.fault.StoreFault.TheVariants.{Invalid}
 use Rattle.store.specs.declared.shape.Shape.{Shape}
+use Rattle.store.specs.declared.shape.Shape.TheVariants.{Tuple, Apply}
+use Rattle.store.specs.Makers.{wanted, Makes}
 use Rattle.store.specs.Questions.{shape_of}
 use Rattle.run.specs.declared.fault.StepFault.{StepFault}
 use Rattle.run.specs.declared.fault.StepFault.TheVariants.{Store, Differs}
@@ -26,6 +28,11 @@ Keeps cells cells' target (Err e) result = (cells' ≡ cells) × (result ≡ Err
 abbrev pub filled : List ℕ → ℕ → std.Result (Unit {0}) StepFault
 filled cells r = if register cells r == vacant then Err (Store Invalid) else Ok tt
 
+-- the atom of the first of some numbers
+abbrev pub next_atom : List ℕ → std.Result Tree StoreFault
+next_atom [] = Err Invalid
+next_atom (n ∷ ns) = Ok (leaf n)
+
 -- two values are compared
 abbrev pub Compares : std.Option Tree → std.Option Tree → std.Result (Unit {0}) StepFault → Type 0
 Compares None w result = result ≡ Err (Store Invalid)
@@ -37,6 +44,11 @@ abbrev pub FitsShape : std.Option Tree → Shape → std.Result (Unit {0}) StepF
 FitsShape None wanted result = result ≡ Err (Store Invalid)
 FitsShape (Some v) wanted (Ok x) = shape_of v ≡ wanted
 FitsShape (Some v) wanted (Err e) = (e ≡ Differs) × (shape_of v ≢ wanted)
+
+-- the shape of a tuple, or of an application of a function
+abbrev pub compound_shape : std.Option ℕ → ℕ → Shape
+compound_shape None n = Tuple n
+compound_shape (Some f) n = Apply f n
 
 -- handles of some values go into registers in a row
 pub data Filled (m : Meaning) : List ℕ → ℕ → Trees → List ℕ → Type 0 where
@@ -60,6 +72,12 @@ Opens m cells cells' first None wanted result = (result ≡ Err (Store Invalid))
 Opens m cells cells' first (Some v) wanted result = OpensValue m cells cells' first v wanted result
 
 module _ {S : Type 0} (means : S → Meaning) (space : S → ℕ) (cost : Tree → ℕ) where
+  -- a compound of what some registers hold is made, and its handle goes into a register
+  pub record Builds (head : Head) (parts : List ℕ) (target : ℕ) (old new : S) (cells cells' : List ℕ) (result : std.Result (Unit {0}) StepFault) : Type 0 where
+    pub made : std.Result ℕ StoreFault
+    pub makes : Makes means space cost old new (wanted (means old) head (map (λ r. register cells r) parts)) made
+    pub keeps : Keeps cells cells' target made result
+
   -- an action ends as the machine's does
   abbrev pub Ends : S → S → List ℕ → Supply → Result → std.Result (Unit {0}) StepFault → Type 0
   Ends old new cells supply (ran M) (Ok x) = Shown (means new) (space new) cells supply M

@@ -1,9 +1,11 @@
 -- What waits in a row is taken one after the other.
-use Rattle.std.specs.Prelude.{◌≡◌, ℕ, List, [], ◌∷◌, Some, None, Option}
+use Rattle.std.specs.Prelude.{◌≡◌, ℕ, List, [], ◌∷◌, Ok, Err, Result}
+use Rattle.store.specs.declared.fault.StoreFault.{StoreFault}
+use Rattle.store.specs.declared.fault.StoreFault.TheVariants.{Invalid}
 
 -- the first of a list is taken from it, if there is one
-abbrev pub TakesFirst : List ℕ → List ℕ → Option ℕ → Type 0
-TakesFirst [] ys None = ys ≡ []
-TakesFirst [] ys (Some y) = ⊥
-TakesFirst (x ∷ xs) ys None = ⊥
-TakesFirst (x ∷ xs) ys (Some y) = (y ≡ x) × (ys ≡ xs)
+abbrev pub TakesFirst : List ℕ → List ℕ → Result ℕ StoreFault → Type 0
+TakesFirst [] ys (Ok y) = ⊥
+TakesFirst [] ys (Err e) = (e ≡ Invalid) × (ys ≡ [])
+TakesFirst (x ∷ xs) ys (Ok y) = (y ≡ x) × (ys ≡ xs)
+TakesFirst (x ∷ xs) ys (Err e) = ⊥

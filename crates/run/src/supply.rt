@@ -2,6 +2,8 @@
 ghost use Rattle.std.specs.Prelude.{◌≡◌, ◌≤◌, length, drop};
 ghost use Rattle.run.specs.Taking.{TakesFirst};
 
+use store::fault::StoreFault;
+
 #[derive(Clone, Copy)]
 pub(crate) struct Supply<'a> {
     pub(crate) handles: &'a [u32],
@@ -13,24 +15,28 @@ pub(crate) struct Supply<'a> {
 
 impl<'a> Supply<'a> {
     // The next handle is taken.
-    pub(crate) fn handle(&mut self) -> Option<u32>
+    pub(crate) fn input(&mut self) -> Result<u32, StoreFault>
         ensures taken { TakesFirst self.old.handles.now self.new.handles.now result }
         ensures numbers { self.new.numbers.now ≡ self.old.numbers.now }
         ensures used { self.new.used ≡ self.old.used }
     {
-        let (first, rest) = self.handles.split_first()?;
+        let Some((first, rest)) = self.handles.split_first() else {
+            return Err(StoreFault::Invalid);
+        };
         self.handles = rest;
-        Some(*first)
+        Ok(*first)
     }
 
     // The next number is taken.
-    pub(crate) fn number(&mut self) -> Option<u32>
+    pub(crate) fn number(&mut self) -> Result<u32, StoreFault>
         ensures taken { TakesFirst (drop self.old.used self.old.numbers.now) (drop self.new.used self.new.numbers.now) result }
         ensures numbers { self.new.numbers.now ≡ self.old.numbers.now }
         ensures handles { self.new.handles.now ≡ self.old.handles.now }
     {
-        let number = *self.numbers.get(self.used)?;
+        let Some(number) = self.numbers.get(self.used) else {
+            return Err(StoreFault::Invalid);
+        };
         self.used += 1;
-        Some(number)
+        Ok(*number)
     }
 }

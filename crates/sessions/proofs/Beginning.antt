@@ -1,5 +1,5 @@
 -- New runs of a translation's roles are new runs of its specification.
-use Rattle.std.proofs.Common.{◌≡◌, ℕ, ◌<◌, ◌≤◌, true, cond, List, [], ◌∷◌, length, map, get_or, take, vec_items, Vec, Ok, sym, refl, ap, ap₂, ◌∙◌, subst, arith, Err, ◌++◌}
+use Rattle.std.proofs.Common.{◌≡◌, ℕ, ◌<◌, ◌≤◌, true, cond, List, [], ◌∷◌, length, map, get_or, take, vec_items, Vec, Ok, sym, refl, ap, ap₂, ◌∙◌, subst, arith, Err}
 use Rattle.std.specs.declared.alloc.AllocError.{AllocError}
 use Rattle.std.specs.declared.alloc.Global.{Global}
 use Rattle.std.proofs.lemmas.Bool.{lt-ltb}

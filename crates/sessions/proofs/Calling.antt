@@ -50,7 +50,7 @@ turn_same l (st ∷ rest) s = go st.turn refl s.1
         → (cond (not (to_begin t)) (line_turn rows) plain.begins ≡ turn_in t)
         × (cond (not (to_begin t)) (line_ahead rows) (of_line 0 rows) ≡ st.actions)
     go begins e o = (refl, subst (λ t. of_line (line_of t) rows ≡ st.actions) e (first_line l st rest s))
-    go (says_line k) e o = next_line false l st rest s o
+    go (says_line k) e o = next_line false l st rest s o.0
     go (hears_line k) e o = next_line true l st rest s o
 
 -- a fault that the model numbers from 11 on has that number here

@@ -1,22 +1,20 @@
 -- What one request does, by its kind.
-use Rattle.std.proofs.Common.{◌≡◌, ℕ, Bool, true, false, cond, ltb, List, length, get_or, Ok, Some, None, Result, refl, ap, subst, arith, eq-eqb, ne_eqb}
+use Rattle.std.proofs.Common.{◌≡◌, ℕ, Bool, true, false, cond, ltb, List, length, get_or, Ok, Some, None, refl, ap, subst, arith, eq-eqb, ne_eqb}
 use Rattle.std.proofs.lemmas.Bool.{ltb-true}
 use mathlib.Core.Option as model
 use mathlib.Core.Path.{subst⁻¹}
 use Rattle.model.specs.Trees.{Head, Tree}
-use Rattle.store.specs.declared.fault.StoreFault.{StoreFault}
 use Rattle.store.specs.Makers.{wanted, Makes}
 use Rattle.run.specs.declared.run.Run.{Run}
 use Rattle.run.specs.Looked.{looked as looked_up}
 use Rattle.run.specs.Shown.{Meaning, Small, as_option, register, vacant, StandsFor}
-
 use Rattle.sessions.specs.declared.reply.Reply.{Reply}
 use Rattle.sessions.specs.declared.reply.Reply.TheVariants as replies
 use Rattle.sessions.specs.declared.request.Request.TheVariants.{Register}
 use Rattle.sessions.specs.Asking.{Looks, reply_for}
 use Rattle.sessions.specs.Moving.{Does}
 use Rattle.sessions.specs.Plays.{Playing}
-use Rattle.sessions.specs.Replying.{Looked, Made, reply_by}
+use Rattle.sessions.specs.Replying.{Looked, Made}
 use Rattle.sessions.specs.Requests.{of_maker}
 use Rattle.sessions.specs.Standing.{Stands, Moves}
 use Rattle.sessions.proofs.Moved.{looked, made_moves}
@@ -43,9 +41,8 @@ module _ {S : Type 0} (means : S → Meaning) (space : S → ℕ) (cost : Tree �
       go p st false e f = f
 
   -- a compound of some handles
-  pub does_make : (old new : S) (runs : List Run) (head : Head) (hs ks : List ℕ) → ks ≡ hs → (x : Result ℕ StoreFault) → Makes means space cost old new (wanted (means old) head ks) x
-      → (reply : Reply) → reply ≡ reply_by replies.Handle x
+  pub does_make : (old new : S) (runs : List Run) (head : Head) (hs ks : List ℕ) → ks ≡ hs → (reply : Reply) → Made means space cost old new (wanted (means old) head ks) reply
       → Moves means space cost old new runs runs (of_maker (wanted (means old) head hs)) (λ memories answer. Made means space cost old new (wanted (means old) head hs) reply)
-  does_make old new runs head hs ks e x m reply is =
+  does_make old new runs head hs ks e reply (x, m, is) =
       subst⁻¹ (λ r. Moves means space cost old new runs runs (of_maker (wanted (means old) head hs)) (λ memories answer. Made means space cost old new (wanted (means old) head hs) r)) is
       (made_moves means space cost old new runs (wanted (means old) head hs) x (subst (λ l. Makes means space cost old new (wanted (means old) head l) x) e m))

@@ -1,19 +1,22 @@
 -- Requests one after the other, beside the model's session.
-use Rattle.std.proofs.Common.{◌≡◌, ℕ, ◌+◌, ◌<◌, List, [], ◌∷◌, ◌++◌, length, take, get_or, Ok, sym, refl, ap, ◌∙◌, subst}
+use Rattle.std.proofs.Common.{◌≡◌, ℕ, ◌+◌, ◌<◌, List, [], ◌∷◌, ◌++◌, length, take, get_or, Ok, sym, refl, ap, ◌∙◌, subst, Bool, true, false, cond, ltb}
 use Rattle.std.proofs.lemmas.List.{take_more}
+use mathlib.Core.Option.{none as nothing}
 use mathlib.Core.Path.{subst⁻¹}
 use Rattle.model.specs.Trees.{Tree}
 use Rattle.model.specs.Specifications.{Specification}
 use Rattle.model.specs.Programs.{Accepted}
 use Rattle.model.specs.Sessions as model
-use Rattle.model.specs.Sessions.{State, Event, Answer, new_runs}
+use Rattle.model.specs.Sessions.{State, Event, say, other, Answer, taken, new_runs}
 use Rattle.model.proofs.Attends.{AllAttend, new_attend}
 use Rattle.model.proofs.Attending.{call_attends}
 use Rattle.model.proofs.Answering.{decides}
+use Rattle.model.proofs.Machine.{no_some}
 use Rattle.run.specs.declared.run.Run.{Run}
 use Rattle.run.specs.Shown.{Meaning}
 use Rattle.sessions.specs.declared.reply.Reply.{Reply}
 use Rattle.sessions.specs.declared.request.Request.{Request}
+use Rattle.sessions.specs.declared.request.Request.TheVariants.{Say}
 use Rattle.sessions.specs.Going.{Begins, Gone, Began}
 use Rattle.sessions.specs.Moving.{Does}
 use Rattle.sessions.specs.Plays.{Playing, plays_of, play}
@@ -22,6 +25,7 @@ use Rattle.sessions.specs.Requests.{event_of}
 use Rattle.sessions.specs.Standing.{Stands}
 use Rattle.sessions.specs.Traces.{start, next, StepIn}
 use Rattle.sessions.proofs.Playing.{AllShaped, play_same, call_shaped}
+use Rattle.sessions.proofs.Saying.{say_valued}
 use Rattle.sessions.proofs.Shaped.{program_shaped}
 
 module _ (X : Specification) (c : Tree → ℕ) where
@@ -42,6 +46,23 @@ module _ (X : Specification) (c : Tree → ℕ) where
       let r = reached es (new_runs X n) (new_attend X acc n) (λ r. (0, program_shaped X acc r)) in
       let s = model.after c (new_runs X n) es in
       play_same c s r.1 e ((decides X c s r.0).numbered e)
+
+  pub next_valued : Accepted X → (n : ℕ) (es : List Event) (m : Meaning) (rs : List Reply) (q : Request) (role : ℕ) → q ≡ Say role
+      → (model.call c (model.after c (new_runs X n) es) (event_of X.roles m rs q)).1 ≡ taken nothing → ⊥
+  next_valued acc n es m rs q role e = go (ltb role X.roles) (ap (λ p. (model.call c s (event_of X.roles m rs p)).1) e)
+    where
+      s : State
+      s = model.after c (new_runs X n) es
+
+      all : AllShaped s
+      all = (reached es (new_runs X n) (new_attend X acc n) (λ r. (0, program_shaped X acc r))).1
+
+      one : (b : Bool) → (model.call c s (cond b (say role) other)).1 ≡ taken nothing → ⊥
+      one true h = let v = say_valued c s role all nothing h in no_some v.1
+      one false h = absurd (cc)
+
+      go : (b : Bool) → (model.call c s (event_of X.roles m rs q)).1 ≡ (model.call c s (cond b (say role) other)).1 → (model.call c s (event_of X.roles m rs q)).1 ≡ taken nothing → ⊥
+      go b p h = one b (sym p ∙ h)
 
 module _ {S : Type 0} (means : S → Meaning) (space : S → ℕ) (cost : Tree → ℕ) where
   pub none_gone : (X : Specification) (s : S) (runs : List Run) → Begins means space cost X s runs → Gone means space cost X s s runs [] []
@@ -79,6 +100,7 @@ module _ {S : Type 0} (means : S → Meaning) (space : S → ℕ) (cost : Tree �
       step = record {
         kept = d.kept;
         leaves = sym stands_here.space ∙ ap (λ (x : Playing × Answer). x.0.space) same;
+        valued = next_valued X cost acc (space first) g.events (means s) rs q;
         replied = subst (λ (x : Playing × Answer). Replies means space cost X.roles (λ k. (st.views k).memory) x.1 rs s s' q r) same replied_here;
       }
 

@@ -3,6 +3,7 @@ pub mod Rows
 pub mod Calling
 pub mod Playing
 pub mod PlainLaw
+pub mod Saying
 pub mod Zips
 pub mod Moved
 pub mod Doing

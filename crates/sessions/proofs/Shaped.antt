@@ -24,10 +24,14 @@ abbrev pub OpensAs : Bool → List Act → Type 0
 OpensAs b [] = ⊥
 OpensAs b (a ∷ xs) = is_hear a ≡ b
 
--- a line that is heard first hears, one that is said does not
+-- the last of some actions says
+abbrev pub SaysLast : List Act → Type 0
+SaysLast xs = (r : ℕ) × (ys : List Act) × (xs ≡ ys ++ (say r ∷ []))
+
+-- a line that is heard first hears; one that is said does not, and its last action says
 abbrev pub Opens : Turn → List Act → Type 0
 Opens begins xs = Unit {0}
-Opens (says_line l) xs = OpensAs false xs
+Opens (says_line l) xs = OpensAs false xs × SaysLast xs
 Opens (hears_line l) xs = OpensAs true xs
 
 -- stages in lines that rise, from one on
@@ -77,11 +81,11 @@ module _ (term : ℕ → Tree) (P : Party) where
       subst⁻¹ (OpensAs true) (hear_acts term P (listen l) s s' Γ g tt f e).2 refl
   duty_opens (speak l mk) s s' Γ g f e = go (said P mk (term l) s) refl e
     where
-      go : (x : Said) → said P mk (term l) s ≡ x → spoken x ≡ some s' → OpensAs false (line s s')
+      go : (x : Said) → said P mk (term l) s ≡ x → spoken x ≡ some s' → Opens (says_line l) (line s s')
       go (spoke u) p q =
           let b = said_builds P mk (term l) s s' (p ∙ ap spoke (some_inj q)) in
           let t = (went_duty term P (speak l mk) s s' Γ g f e).1 in
-          subst⁻¹ (OpensAs false) t.2 (say_opens t.0 t.1 (subst (Every Builds) t.2 b))
+          (subst⁻¹ (OpensAs false) t.2 (say_opens t.0 t.1 (subst (Every Builds) t.2 b)), (t.0, t.1, t.2))
       go (failed u) p q = absurd (no_some q)
 
   stages_shaped : (ds : List Duty) (s : Role) (Γ : Memory) (l : ℕ) → Good s Γ s.next None → Fitting term P s ds → Ascends l ds

@@ -1,12 +1,14 @@
 -- A list of requests performed on a store, beside the model's session of the same calls.
-use Rattle.std.specs.Prelude.{◌≡◌, ℕ, List, [], ◌∷◌, ◌++◌}
+use Rattle.std.specs.Prelude.{◌≡◌, ◌≢◌, ℕ, List, [], ◌∷◌, ◌++◌}
+use Rattle.std.proofs.Math.Option.{none as nothing}
 use Rattle.model.specs.Trees.{Tree}
 use Rattle.model.specs.Runs.{Memory}
 use Rattle.model.specs.Specifications.{Specification}
-use Rattle.model.specs.Sessions.{State, new_runs, Event, Answer, call, after}
+use Rattle.model.specs.Sessions.{State, new_runs, Event, Answer, taken, call, after}
 use Rattle.run.specs.Shown.{Meaning, Kept}
 use Rattle.sessions.specs.declared.reply.Reply.{Reply}
 use Rattle.sessions.specs.declared.request.Request.{Request}
+use Rattle.sessions.specs.declared.request.Request.TheVariants.{Say}
 use Rattle.sessions.specs.Requests.{event_of}
 use Rattle.sessions.specs.Replying.{Replies}
 
@@ -16,6 +18,8 @@ module _ {S : Type 0} (means : S → Meaning) (space : S → ℕ) (cost : Tree �
     pub kept : Kept (means old) (means new)
     pub leaves : space new ≡ left
     pub replied : Replies means space cost roles memories answer rs old new q r
+    -- a say that is taken says a value
+    pub valued : (role : ℕ) → q ≡ Say role → answer ≢ taken nothing
 
   -- in a state of the model
   abbrev pub StepIn : Specification → State → Event → List Reply → S → S → Request → Reply → Type 0

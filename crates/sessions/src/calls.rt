@@ -40,12 +40,7 @@ pub(crate) fn say<S: Store>(store: &mut S, runs: &mut [Run<'_>], role: usize) ->
     told(runs[role].say(store))
 }
 
-pub(crate) fn hear<S: Store>(
-    store: &mut S,
-    runs: &mut [Run<'_>],
-    role: usize,
-    handle: u32,
-) -> Reply
+pub(crate) fn hear<S: Store>(store: &mut S, runs: &mut [Run<'_>], role: usize, handle: u32) -> Reply
     ensures { Moves S.means S.space S.cost store.old store.new runs.old runs.new (of_role (length runs.old) role (to_hear role (as_option (S.means store.old handle)))) (λ _ answer. cond (nat_lt role (length runs.old)) (Took answer result × Untouched store.old store.new result) ((store.new ≡ store.old) × (result ≡ replies.NoRole))) }
 {
     if role >= runs.len() {

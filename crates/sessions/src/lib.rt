@@ -3,15 +3,16 @@
 
 ghost use Rattle.sessions.specs.PlainLaw.{PlainLaw};
 
-pub mod fault;
 mod calls;
+pub mod fault;
+mod makers;
 mod one;
 mod past;
 pub mod perform;
 mod questions;
-mod runs;
 pub mod reply;
 pub mod request;
+mod runs;
 
 // Runs of an accepted specification's programs go as the model's sessions go, and are lawful.
 pub fn plain_sessions_follow()

@@ -3,6 +3,7 @@ ghost use Rattle.std.specs.Prelude.{◌≡◌, length};
 ghost use Rattle.sessions.specs.Moving.{Does};
 
 use crate::calls::{begin, hear, look, say};
+use crate::makers::{apply, tuple};
 use crate::past::Past;
 use crate::questions::{compared, found, shaped};
 use crate::reply::Reply;
@@ -35,17 +36,11 @@ pub(crate) fn one<S: Store>(
         Request::Hear { role, handle } => hear(store, runs, *role, past.handle(*handle)),
         Request::Register { role, number } => look(runs, *role, *number),
         Request::Atom(number) => found(store.make_atom(*number)),
-        Request::Tuple(parts) => {
-            let parts = past.handles(parts.as_slice())?;
-            found(store.make_tuple(parts.as_slice()))
-        }
+        Request::Tuple(parts) => tuple(store, past, parts.as_slice())?,
         Request::Crypt { text, key } => {
             found(store.make_crypt(past.handle(*text), past.handle(*key)))
         }
-        Request::Apply { function, parts } => {
-            let parts = past.handles(parts.as_slice())?;
-            found(store.make_apply(*function, parts.as_slice()))
-        }
+        Request::Apply { function, parts } => apply(store, past, *function, parts.as_slice())?,
         Request::Shape(handle) => shaped(store.shape(past.handle(*handle))),
         Request::Part { of, index } => found(store.part(past.handle(*of), *index)),
         Request::Unlock { of, key } => found(store.unlock(past.handle(*of), past.handle(*key))),

@@ -19,7 +19,7 @@ returns g c =
     let d = c.index-runs-role.result in
     let answers = λ (a : Answer). unsaid a ≡ did c.hear.result in
     let same = untouched m g.S.Store.space g.S.Store.cost old new c.args.runs.now c.args.role (omega arith) d c.hear.new.self (plain.hear (as_option (m old c.args.handle))) (fault_of c.hear.result) answers c.hear.ensures
-        (λ u. replies.Done) (λ u. tt) c.hear.result refl in
+    (λ u. replies.Done) (λ u. tt) c.hear.result refl in
     role_moves m g.S.Store.space g.S.Store.cost old new c.args.runs.now c.args.role (omega arith) d c.hear.new.self (plain.hear (as_option (m old c.args.handle))) (fault_of c.hear.result) answers c.hear.ensures
     (to_hear c.args.role (as_option (m old c.args.handle))) (λ p. refl) (λ a. Took a c.done.result × Untouched old new c.done.result) _
     (λ a q. ((c.hear.result, q, c.done.ensures), subst⁻¹ (Untouched old new) c.done.ensures same))

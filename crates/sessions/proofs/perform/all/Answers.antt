@@ -1,9 +1,8 @@
-use Rattle.std.proofs.Common.{[], Ok, ap, ◌∙◌, subst, take, ◌+◌, ◌++◌, ◌∷◌, refl, arith, ◌≤◌}
+use Rattle.std.proofs.Common.{[], subst, take, ◌+◌, ◌++◌, ◌∷◌, refl, arith}
 use Rattle.std.proofs.lemmas.List.{take_all}
 use Rattle.std.proofs.lemmas.Result.{err_from_is_err_and}
 use Rattle.sessions.specs.Going.{Gone}
 use mathlib.Core.Path.{subst⁻¹}
-use Rattle.sessions.specs.Moving.{Does}
 use Rattle.sessions.proofs.Going.{Halfway, halfway_start, halfway_began, halfway_more}
 use Rattle.sessions.proofs.perform.all.Goals as goal
 

@@ -1,5 +1,5 @@
 use Rattle.run.proofs.Opening.{Upto}
-use Rattle.run.proofs.step.open.Given as goal
+use Rattle.run.proofs.open.open.Given as goal
 
 -- where the parts that are left go, all the parts went
 abbrev pub invariant-loop-i : goal.invariant-loop-i

@@ -1,6 +1,6 @@
 use Rattle.std.proofs.Common.{sym, arith}
 use Rattle.run.proofs.Opening.{none_missing, none_yet, one_filled, all_filled}
-use Rattle.run.proofs.step.open.Goals as goal
+use Rattle.run.proofs.open.open.Goals as goal
 
 pub returns-in_err-part : goal.returns-in_err-part
 returns-in_err-part g c =
