@@ -1,3 +1,5 @@
+pub mod Places
+pub mod Advancing
 pub mod Shaped
 pub mod Rows
 pub mod Calling

@@ -9,3 +9,6 @@ pub mod Asking
 pub mod Moving
 pub mod Going
 pub mod Starting
+pub mod Observed
+pub mod RunLaw
+pub mod Happening
