@@ -1,5 +1,8 @@
 pub mod Places
 pub mod Advancing
+pub mod Naming
+pub mod Replying
+pub mod Telling
 pub mod Shaped
 pub mod Rows
 pub mod Calling

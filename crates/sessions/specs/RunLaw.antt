@@ -1,5 +1,5 @@
 -- The law of runs, over what was seen of them: requests, replies, what handles name, the space, and the runs' registers.
-use Rattle.std.specs.Prelude.{◌≡◌, ◌≢◌, ℕ, ◌<◌, ◌≤◌, Bool, true, false, cond, T, ◌⊎◌, ◌↔◌, List, [], ◌∷◌, ◌++◌, map, length, take, Some, slice_index_or, nat_lt, vec_items, Vec}
+use Rattle.std.specs.Prelude.{◌≡◌, ◌≢◌, ℕ, ◌<◌, ◌≤◌, Bool, true, false, cond, ◌&&◌, T, ◌⊎◌, ◌↔◌, List, [], ◌∷◌, ◌++◌, map, length, take, Some, slice_index_or, ◌==◌, nat_lt, vec_items, Vec}
 use Rattle.std.specs.declared.alloc.Global.{Global}
 use Rattle.std.proofs.Math.Option.{Option, none as nothing, some}
 use Rattle.model.specs.Lists.{Every, SomeOf}
@@ -51,22 +51,6 @@ to_build (Unlock h k) = false
 to_build (Same h k) = false
 to_build Space = false
 
--- a begin of one of so many roles
-abbrev pub to_start : ℕ → Request → Bool
-to_start roles (Begin r given numbers) = nat_lt r roles
-to_start roles (Say r) = false
-to_start roles (Hear r h) = false
-to_start roles (Register r n) = false
-to_start roles (Atom n) = false
-to_start roles (Tuple parts) = false
-to_start roles (Crypt text key) = false
-to_start roles (Apply f parts) = false
-to_start roles (Shape h) = false
-to_start roles (Part h i) = false
-to_start roles (Unlock h k) = false
-to_start roles (Same h k) = false
-to_start roles Space = false
-
 module _ (X : Specification) where
   -- what a role is after some duties: it starts, hears and says
   abbrev pub role_after : Party → Role → List Duty → Role
@@ -85,7 +69,7 @@ module _ {S : Type 0} (means : S → Meaning) (space : S → ℕ) (cost : Tree �
 
   -- Begin is in turn until taken, then each own line in order until taken: said where the role sends, heard where it receives.
   abbrev pub InTurn : List (Step S) → Request → Type 0
-  InTurn H (Begin r given numbers) = (ts : List Tree) × (next_duty X r H ≡ some (begin ts))
+  InTurn H (Begin r given numbers) = next_duty X r H ≡ some (begin (X.knows r))
   InTurn H (Say r) = (l : ℕ) × (mk : ℕ → Bool) × (next_duty X r H ≡ some (speak l mk))
   InTurn H (Hear r h) = (l : ℕ) × (next_duty X r H ≡ some (listen l))
   InTurn H (Register r n) = ⊥
@@ -117,19 +101,19 @@ module _ {S : Type 0} (means : S → Meaning) (space : S → ℕ) (cost : Tree �
         → T (taken e.reply) ↔ Readable (X.party r) (add (stock means X r H) (message X l ∷ []) (v ∷ []) [] [])
     pub hear_refused : (r l : ℕ) (h : Handle) (v : Tree) → e.asked ≡ Hear r h → next_duty X r H ≡ some (listen l)
         → means e.before (handle_of e.earlier h) ≡ Some v → ¬ T (taken e.reply) → Refused 14 e.reply ⊎ Refused 15 e.reply
-    pub begin_taken : (r : ℕ) (given : Vec Handle Global) (numbers : Vec ℕ Global) (ts vs : List Tree) → e.asked ≡ Begin r given numbers
-        → next_duty X r H ≡ some (begin ts) → values_in means e ≡ map some vs → RightCounts r vs (vec_items numbers) → ¬ Refused 15 e.reply
-        → T (taken e.reply) ↔ Readable (X.party r) (add nothing_held (each_once [] ts) vs [] [])
-    pub begin_refused : (r : ℕ) (given : Vec Handle Global) (numbers : Vec ℕ Global) (ts vs : List Tree) → e.asked ≡ Begin r given numbers
-        → next_duty X r H ≡ some (begin ts) → values_in means e ≡ map some vs → RightCounts r vs (vec_items numbers) → ¬ T (taken e.reply)
+    pub begin_taken : (r : ℕ) (given : Vec Handle Global) (numbers : Vec ℕ Global) (vs : List Tree) → e.asked ≡ Begin r given numbers
+        → next_duty X r H ≡ some (begin (X.knows r)) → values_in means e ≡ map some vs → RightCounts r vs (vec_items numbers) → ¬ Refused 15 e.reply
+        → T (taken e.reply) ↔ Readable (X.party r) (add nothing_held (each_once [] (X.knows r)) vs [] [])
+    pub begin_refused : (r : ℕ) (given : Vec Handle Global) (numbers : Vec ℕ Global) (vs : List Tree) → e.asked ≡ Begin r given numbers
+        → next_duty X r H ≡ some (begin (X.knows r)) → values_in means e ≡ map some vs → RightCounts r vs (vec_items numbers) → ¬ T (taken e.reply)
         → Refused 14 e.reply ⊎ Refused 15 e.reply
     pub say_refused : (r l : ℕ) (mk : ℕ → Bool) → e.asked ≡ Say r → next_duty X r H ≡ some (speak l mk) → ¬ T (taken e.reply) → Refused 15 e.reply
 
   -- a begin in turn has the readings of the start's terms as givens, and the numbers of the atoms chosen for the names that the role makes
   abbrev pub StartsFrom : (ℕ → Tree) → List (Step S) → Step S → Type 0
   StartsFrom ρ H e =
-      (r : ℕ) (given : Vec Handle Global) (numbers : Vec ℕ Global) (ts : List Tree) → e.asked ≡ Begin r given numbers → next_duty X r H ≡ some (begin ts)
-      → (values_in means e ≡ map (λ t. some (reading_of ρ t)) (each_once [] ts)) × (map leaf (vec_items numbers) ≡ map ρ (names_of_all X (duties X r)))
+      (r : ℕ) (given : Vec Handle Global) (numbers : Vec ℕ Global) → e.asked ≡ Begin r given numbers → next_duty X r H ≡ some (begin (X.knows r))
+      → (values_in means e ≡ map (λ t. some (reading_of ρ t)) (each_once [] (X.knows r))) × (map leaf (vec_items numbers) ≡ map ρ (names_of_all X (duties X r)))
 
   -- a hear in turn has a valid handle, with the value of an earlier taken say of that line
   abbrev pub AsSaid : List (Step S) → Step S → Type 0
@@ -141,16 +125,33 @@ module _ {S : Type 0} (means : S → Meaning) (space : S → ℕ) (cost : Tree �
   abbrev pub Unbuilt : Step S → Type 0
   Unbuilt e = (h : ℕ) → T (to_build e.asked) → e.reply ≢ replies.Handle h
 
+  -- a begin in turn
+  abbrev pub to_start : List (Step S) → Request → Bool
+  to_start H (Begin r given numbers) = nat_lt r X.roles && length (taken_by r H) == 0
+  to_start H (Say r) = false
+  to_start H (Hear r h) = false
+  to_start H (Register r n) = false
+  to_start H (Atom n) = false
+  to_start H (Tuple parts) = false
+  to_start H (Crypt text key) = false
+  to_start H (Apply f parts) = false
+  to_start H (Shape h) = false
+  to_start H (Part h i) = false
+  to_start H (Unlock h k) = false
+  to_start H (Same h k) = false
+  to_start H Space = false
+
   -- at the first begin the space holds the costs of all that the programs make or build, and nobody else builds from then on
-  abbrev pub Suffices : (Tree → Tree) → List (Step S) → Type 0
-  Suffices R [] = Unit {0}
-  Suffices R (e ∷ es) = cond (to_start X.roles e.asked) ((costs X cost R X.roles ≤ space e.before) × Every Unbuilt es) (Suffices R es)
+  abbrev pub Suffices : (Tree → Tree) → List (Step S) → List (Step S) → Type 0
+  Suffices R before [] = Unit {0}
+  Suffices R before (e ∷ es) =
+      cond (to_start before e.asked) ((costs X cost R X.roles ≤ space e.before) × Every Unbuilt es) (Suffices R (before ++ (e ∷ [])) es)
 
   -- so far all roles start from one choice for the names, each line arrives as said, and space suffices for every build
   pub record Fair (ρ : ℕ → Tree) (H : List (Step S)) : Type 0 where
     pub start : Along (StartsFrom ρ) [] H
     pub arrive : Along AsSaid [] H
-    pub suffice : Suffices (reading_of ρ) H
+    pub suffice : Suffices (reading_of ρ) [] H
 
   -- a call in turn is taken
   abbrev pub NotRefused : List (Step S) → Step S → Type 0
