@@ -3,6 +3,7 @@ pub mod Advancing
 pub mod Naming
 pub mod Replying
 pub mod Telling
+pub mod Observing
 pub mod Shaped
 pub mod Rows
 pub mod Calling
