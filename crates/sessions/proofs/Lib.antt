@@ -4,6 +4,8 @@ pub mod Naming
 pub mod Replying
 pub mod Telling
 pub mod Observing
+pub mod Obeying
+pub mod RunLaw
 pub mod Shaped
 pub mod Rows
 pub mod Calling

@@ -85,13 +85,13 @@ module _ {S : Type 0} (means : S → Meaning) (X : Specification) where
   said_at (listen l) o e h = refl
 
 -- only the first duty is to begin
-no_duty : {d : Duty} {ds : List Duty} → [] ≡ d ∷ ds → ⊥
+pub no_duty : {d : Duty} {ds : List Duty} → [] ≡ d ∷ ds → ⊥
 no_duty e = let z : ◌≡◌ {A = ℕ} 0 1 = cc in omega arith
 
 first_duty : {x d : Duty} {ds later : List Duty} → x ∷ ds ≡ d ∷ later → x ≡ d
 first_duty e = cc
 
-drop_lines : {C : Type 0} (n : List C) (ds : List Duty) → Every IsLine ds → (d : Duty) (later : List Duty) → drop (length n) ds ≡ d ∷ later → IsLine d
+pub drop_lines : {C : Type 0} (n : List C) (ds : List Duty) → Every IsLine ds → (d : Duty) (later : List Duty) → drop (length n) ds ≡ d ∷ later → IsLine d
 drop_lines [] [] i d later e = absurd (no_duty e)
 drop_lines [] (x ∷ ds) i d later e = subst IsLine (first_duty e) i.0
 drop_lines (k ∷ n) [] i d later e = absurd (no_duty e)

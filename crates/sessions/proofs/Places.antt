@@ -44,6 +44,11 @@ module _ {A B : Type 0} where
   take_more (a ∷ xs) [] x rest y e = ap (λ z. z ∷ []) (cons_head e)
   take_more (a ∷ xs) (b ∷ ys) x rest y e = ap (λ l. a ∷ l) (take_more xs ys x rest y e)
 
+-- whose turn it is, by the duties
+abbrev pub turn_for : Option Duty → Option Turn
+turn_for nothing = nothing
+turn_for (some d) = some (turn_of d)
+
 module _ (X : Specification) (P : Party) where
   -- a stage that is next after so many duties
   pub record Place (s : Role) (ds : List Duty) (n : ℕ) (st : Stage) : Type 0 where
@@ -112,11 +117,6 @@ module _ (X : Specification) (P : Party) where
         lived = λ l r i. ap (run P) (life_first d (take (length cs) ds) l i.0)
             ∙ p.lived (life_on X l (d ∷ [])) (line_lived d l s s' i.0 r q) i.1;
       }
-
-  -- whose turn it is, by the duties
-  abbrev pub turn_for : Option Duty → Option Turn
-  turn_for nothing = nothing
-  turn_for (some d) = some (turn_of d)
 
   pub turn_same : {C : Type 0} (cs : List C) (ds : List Duty) (s : Role) → Fitting (message X) P s ds → turn_now (drop (length cs) (stages_from (message X) P s ds)) ≡ turn_for (first_of (drop (length cs) ds))
   turn_same [] [] s f = refl

@@ -61,6 +61,10 @@ module _ (X : Specification) where
   abbrev pub known_after : ℕ → ℕ → List Entry
   known_after r n = (role_after (X.party r) nobody_yet (take n (duties X r))).known
 
+  -- a begin has a value for each term that the role starts from, and a number for each name that it makes
+  abbrev pub RightCounts : ℕ → List Tree → List ℕ → Type 0
+  RightCounts r ts ns = (length ts ≡ length (each_once [] (X.knows r))) × (length ns ≡ length (names_of_all X (duties X r)))
+
 module _ {S : Type 0} (means : S → Meaning) (space : S → ℕ) (cost : Tree → ℕ) (X : Specification) where
   -- something holds of each step, after those before it
   abbrev pub Along : (List (Step S) → Step S → Type 0) → List (Step S) → List (Step S) → Type 0
@@ -89,10 +93,6 @@ module _ {S : Type 0} (means : S → Meaning) (space : S → ℕ) (cost : Tree �
         → Derives (X.party r) (ValueOf (stock means X r H)) v
     pub in_says : (r : ℕ) → Every (λ p. Derives (X.party r) (ValueOf (stock means X r H)) p.1) (lines_said means X r H)
 
-  -- a begin has a value for each term that the role starts from, and a number for each name that it makes
-  abbrev pub RightCounts : ℕ → List Tree → List ℕ → Type 0
-  RightCounts r ts ns = (length ts ≡ length (each_once [] (X.knows r))) × (length ns ≡ length (names_of_all X (duties X r)))
-
   -- A value heard in turn, unless the store refuses one of its builds, is taken exactly if some choice for names and closed terms gives all
   -- the role's holdings, this one too, their values; and so are the values given at a begin in turn with right counts.
   pub record Decided (H : List (Step S)) (e : Step S) : Type 0 where
@@ -102,10 +102,10 @@ module _ {S : Type 0} (means : S → Meaning) (space : S → ℕ) (cost : Tree �
     pub hear_refused : (r l : ℕ) (h : Handle) (v : Tree) → e.asked ≡ Hear r h → next_duty X r H ≡ some (listen l)
         → means e.before (handle_of e.earlier h) ≡ Some v → ¬ T (taken e.reply) → Refused 14 e.reply ⊎ Refused 15 e.reply
     pub begin_taken : (r : ℕ) (given : Vec Handle Global) (numbers : Vec ℕ Global) (vs : List Tree) → e.asked ≡ Begin r given numbers
-        → next_duty X r H ≡ some (begin (X.knows r)) → values_in means e ≡ map some vs → RightCounts r vs (vec_items numbers) → ¬ Refused 15 e.reply
+        → next_duty X r H ≡ some (begin (X.knows r)) → values_in means e ≡ map some vs → RightCounts X r vs (vec_items numbers) → ¬ Refused 15 e.reply
         → T (taken e.reply) ↔ Readable (X.party r) (add nothing_held (each_once [] (X.knows r)) vs [] [])
     pub begin_refused : (r : ℕ) (given : Vec Handle Global) (numbers : Vec ℕ Global) (vs : List Tree) → e.asked ≡ Begin r given numbers
-        → next_duty X r H ≡ some (begin (X.knows r)) → values_in means e ≡ map some vs → RightCounts r vs (vec_items numbers) → ¬ T (taken e.reply)
+        → next_duty X r H ≡ some (begin (X.knows r)) → values_in means e ≡ map some vs → RightCounts X r vs (vec_items numbers) → ¬ T (taken e.reply)
         → Refused 14 e.reply ⊎ Refused 15 e.reply
     pub say_refused : (r l : ℕ) (mk : ℕ → Bool) → e.asked ≡ Say r → next_duty X r H ≡ some (speak l mk) → ¬ T (taken e.reply) → Refused 15 e.reply
 
