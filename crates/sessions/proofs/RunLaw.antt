@@ -1,7 +1,7 @@
 -- The law of runs, from the law of the model's sessions.
 use Rattle.std.proofs.Common.{◌≡◌, ℕ, ◌<◌, ◌≤◌, Bool, true, false, cond, ◌&&◌, T, eqb, ltb, ◌⊎◌, ◌↔◌, List, [], ◌∷◌, ◌++◌, map, length, drop, get_or, Some, None, Ok, Err, Result, Vec, sym, refl, ap, ap₂, ◌∙◌, subst, inl, inr, arith, vec_items, append-nil, append_assoc}
 use Rattle.std.specs.declared.alloc.Global.{Global}
-use Rattle.std.proofs.lemmas.List.{map-append}
+use Rattle.std.proofs.lemmas.Bool.{ltb-true}
 use mathlib.Core.Option.{Option, none as nothing, some}
 use mathlib.Core.Path.{subst⁻¹}
 use Rattle.model.specs.Lists.{Every, SomeOf}
@@ -29,13 +29,13 @@ use Rattle.sessions.specs.declared.request.Request.{Request}
 use Rattle.sessions.specs.declared.request.Request.TheVariants.{Begin, Say, Hear, Register, Atom, Tuple, Crypt, Apply, Shape, Part, Unlock, Same, Space}
 use Rattle.sessions.specs.Going.{Begins}
 use Rattle.sessions.specs.Happening.{store_after, runs_after, Did, Happened}
-use Rattle.sessions.specs.Observed.{Step, taken as is_taken, taken_by, stock, lines_said, next_duty}
+use Rattle.sessions.specs.Observed.{Step, taken as is_taken, taken_by, values_at, values_in, stock, lines_said, next_duty}
 use Rattle.sessions.specs.Replying.{Replies, Made, reply_by}
 use Rattle.sessions.specs.Requests.{handle_of, handles_of, of_maker, event_of}
-use Rattle.sessions.specs.RunLaw.{Along, Derived, Decided, StartsFrom, AsSaid, Unbuilt, to_start, Suffices, Fair, NotRefused, InTurn, AllRead, AllShare, Lawful, known_after}
+use Rattle.sessions.specs.RunLaw.{Along, Derived, Decided, StartsFrom, AsSaid, Unbuilt, to_build, to_start, Suffices, Fair, NotRefused, InTurn, AllRead, AllShare, Lawful, known_after}
 use Rattle.sessions.proofs.Naming.{given_once}
 use Rattle.sessions.proofs.Observing.{At, event, replied, at_start, at_next}
-use Rattle.sessions.proofs.Obeying.{begins_same, all_names, stock_same, turn_of_duty, begin_of_turn, hear_of_turn, begin_is, say_is, hear_is, decided, duty_role}
+use Rattle.sessions.proofs.Obeying.{begins_same, all_names, stock_same, turn_of_duty, begin_of_turn, hear_of_turn, begin_is, say_is, hear_is, decided, is_role}
 
 module _ {S : Type 0} (means : S → Meaning) (space : S → ℕ) (cost : Tree → ℕ) (X : Specification) (acc : Accepted X) where
   abbrev Now : List (Step S) → S → List Run → State → Type 0
@@ -134,3 +134,221 @@ module _ {S : Type 0} (means : S → Meaning) (space : S → ℕ) (cost : Tree �
     all_share f r q i j run t l k h g =
         let z = f r q t i j (subst⁻¹ (λ k. Held k t i) (a.tells r).known h) (subst⁻¹ (λ k. Held k t j) (a.tells q).known g) in
         (z.0, in_register r i run z.0 l z.1, in_register q j run z.0 k z.2)
+
+  -- one step as an event, by its kind
+  module _ (H : List (Step S)) (s : S) (runs : List Run) (st : State) (a : Now H s runs st) (e : Step S) (d : Did means space cost s runs (replies_of H) e) where
+    abbrev ev : Event
+    ev = event means space cost X acc e
+
+    abbrev Answers : Request → Type 0
+    Answers q = Replies means space cost X.roles (λ k. (st.views k).memory) (call cost st ev).1 e.earlier e.before e.after q e.reply
+
+    module _ (Z : Event → Type 0) (outside : Z other)
+        (built : (v : Tree) → T (to_build e.asked) → Made means space cost e.before e.after (Ok v) e.reply → Z (build v))
+        (begun : (p : ℕ) (hs : Vec Handle Global) (ns : Vec ℕ Global) → e.asked ≡ Begin p hs ns → p < X.roles → Z (begin p (values_in means e) (vec_items ns)))
+        (said : (p : ℕ) → e.asked ≡ Say p → p < X.roles → Z (say p))
+        (heard : (p : ℕ) (h : Handle) → e.asked ≡ Hear p h → p < X.roles → Z (hear p (as_option (means e.before (handle_of e.earlier h))))) where
+      made : (q : Request) → e.asked ≡ q → T (to_build q) → (w : Result Tree StoreFault) → Made means space cost e.before e.after w e.reply → Z (of_maker w)
+      made q k t (Ok v) m = built v (subst⁻¹ (λ x. T (to_build x)) k t) m
+      made q k t (Err f) m = outside
+
+      by_kind : (q : Request) → e.asked ≡ q → Answers q → Z (event_of X.roles (means e.before) e.earlier q)
+      by_kind (Begin p hs ns) k y = go (ltb p X.roles) refl
+        where
+          go : (b : Bool) → ltb p X.roles ≡ b → Z (cond b (begin p (values_at (means e.before) e.earlier (Begin p hs ns)) (vec_items ns)) other)
+          go true i = subst (λ q. Z (begin p (values_at (means e.before) e.earlier q) (vec_items ns))) k (begun p hs ns k (ltb-true p X.roles i))
+          go false i = outside
+      by_kind (Say p) k y = go (ltb p X.roles) refl
+        where
+          go : (b : Bool) → ltb p X.roles ≡ b → Z (cond b (say p) other)
+          go true i = said p k (ltb-true p X.roles i)
+          go false i = outside
+      by_kind (Hear p h) k y = go (ltb p X.roles) refl
+        where
+          go : (b : Bool) → ltb p X.roles ≡ b → Z (cond b (hear p (as_option (means e.before (handle_of e.earlier h)))) other)
+          go true i = heard p h k (ltb-true p X.roles i)
+          go false i = outside
+      by_kind (Register r n) k y = outside
+      by_kind (Atom n) k y = built (leaf n) (subst⁻¹ (λ x. T (to_build x)) k tt) y
+      by_kind (Tuple parts) k y = made (Tuple parts) k tt (wanted (means e.before) tupled (handles_of e.earlier (vec_items parts))) y
+      by_kind (Crypt text key) k y = made (Crypt text key) k tt (wanted (means e.before) crypted (handle_of e.earlier text ∷ handle_of e.earlier key ∷ [])) y
+      by_kind (Apply f parts) k y = made (Apply f parts) k tt (wanted (means e.before) (applied f) (handles_of e.earlier (vec_items parts))) y
+      by_kind (Shape h) k y = outside
+      by_kind (Part h i) k y = outside
+      by_kind (Unlock h i) k y = outside
+      by_kind (Same h i) k y = outside
+      by_kind Space k y = outside
+
+      pub by_event : Z ev
+      by_event = by_kind e.asked refl (replied means space cost X acc H s runs st a e d)
+
+    start_to : (ρ : ℕ → Tree) → StartsFrom means space cost X ρ H e → model.StartsFrom X ρ st ev
+    start_to ρ w = by_event (model.StartsFrom X ρ st) tt (λ v t m. tt) begun (λ p k l. tt) (λ p h k l. tt)
+      where
+        begun : (p : ℕ) (hs : Vec Handle Global) (ns : Vec ℕ Global) → e.asked ≡ Begin p hs ns → p < X.roles → model.StartsFrom X ρ st (begin p (values_in means e) (vec_items ns))
+        begun p hs ns k l t =
+            let z = w p hs ns k (begin_of_turn means space cost X acc H s runs st a p t) in
+            (z.0 ∙ ap (map (λ t. some (reading_of ρ t))) (sym (given_once (X.party p) (X.knows p))), z.1 ∙ ap (map ρ) (sym (all_names X acc p)))
+
+    arrive_to : AsSaid means space cost X H e → model.AsSaid st ev
+    arrive_to w = by_event (model.AsSaid st) tt (λ v t m. tt) (λ p hs ns k l. tt) (λ p k l. tt) heard
+      where
+        heard : (p : ℕ) (h : Handle) → e.asked ≡ Hear p h → p < X.roles → model.AsSaid st (hear p (as_option (means e.before (handle_of e.earlier h))))
+        heard p h k i l t =
+            let z = w p l h k (hear_of_turn means space cost X acc H s runs st a p l t) in
+            (z.0, ap as_option z.1, z.2, subst⁻¹ (SomeOf (λ p. (p.0 ≡ l) × (p.1 ≡ z.0))) (a.tells z.2).said z.3)
+
+    free_is : st.space ≡ space e.before
+    free_is = a.stands.space ∙ ap space (sym d.before)
+
+    unbuilt_to : Unbuilt means space cost X e → model.Unbuilt cost st ev
+    unbuilt_to u = by_event (model.Unbuilt cost st) tt (λ v t m. go v t m.0 m.1 m.2) (λ p hs ns k l. tt) (λ p k l. tt) (λ p h k l. tt)
+      where
+        go : (v : Tree) → T (to_build e.asked) → (x : Result ℕ StoreFault) → Makes means space cost e.before e.after (Ok v) x → e.reply ≡ reply_by replies.Handle x → st.space < cost v
+        go v t (Ok h) m y = absurd (u h t y)
+        go v t (Err f) m y = let b = m.2 in let q = free_is in omega arith
+
+    -- a begin in turn
+    abbrev starts : Event → Bool
+    starts (begin r hs ns) = begins_next (st.views r).ahead
+    starts (say r) = false
+    starts (hear r h) = false
+    starts (build v) = false
+    starts other = false
+
+    maker_starts : (w : Result Tree StoreFault) → starts (of_maker w) ≡ false
+    maker_starts (Ok v) = refl
+    maker_starts (Err f) = refl
+
+    starts_kind : (q : Request) → starts (event_of X.roles (means e.before) e.earlier q) ≡ to_start means space cost X H q
+    starts_kind (Begin p hs ns) = go (ltb p X.roles) refl
+      where
+        go : (b : Bool) → ltb p X.roles ≡ b → starts (cond b (begin p (values_at (means e.before) e.earlier (Begin p hs ns)) (vec_items ns)) other) ≡ (b && eqb (length (taken_by p H)) 0)
+        go true i = ap begins_next (a.tells p).ahead ∙ begins_same X acc p (taken_by p H) ∙ ap (λ b. b && eqb (length (taken_by p H)) 0) i
+        go false i = refl
+    starts_kind (Say p) = go (ltb p X.roles)
+      where
+        go : (b : Bool) → starts (cond b (say p) other) ≡ false
+        go true = refl
+        go false = refl
+    starts_kind (Hear p h) = go (ltb p X.roles)
+      where
+        go : (b : Bool) → starts (cond b (hear p (as_option (means e.before (handle_of e.earlier h)))) other) ≡ false
+        go true = refl
+        go false = refl
+    starts_kind (Register r n) = refl
+    starts_kind (Atom n) = refl
+    starts_kind (Tuple parts) = maker_starts (wanted (means e.before) tupled (handles_of e.earlier (vec_items parts)))
+    starts_kind (Crypt text key) = maker_starts (wanted (means e.before) crypted (handle_of e.earlier text ∷ handle_of e.earlier key ∷ []))
+    starts_kind (Apply f parts) = maker_starts (wanted (means e.before) (applied f) (handles_of e.earlier (vec_items parts)))
+    starts_kind (Shape h) = refl
+    starts_kind (Part h i) = refl
+    starts_kind (Unlock h i) = refl
+    starts_kind (Same h i) = refl
+    starts_kind Space = refl
+
+    suffices_first : (R : Tree → Tree) (x : Event) (xs : List Event)
+        → cond (starts x) ((model.costs X cost R X.roles ≤ st.space) × model.Along cost (model.Unbuilt cost) (call cost st x).0 xs) (model.Suffices X cost R (call cost st x).0 xs)
+        → model.Suffices X cost R st (x ∷ xs)
+    suffices_first R (begin r hs ns) xs h = h
+    suffices_first R (say r) xs h = h
+    suffices_first R (hear r o) xs h = h
+    suffices_first R (build v) xs h = h
+    suffices_first R other xs h = h
+
+    -- a call in turn that the model takes is taken
+    not_refused_from : model.NotRefused cost st ev → NotRefused means space cost X H e
+    not_refused_from w = go e.asked refl
+      where
+        go : (q : Request) → e.asked ≡ q → InTurn means space cost X H q → T (is_taken e.reply)
+        go (Begin p hs ns) k i =
+            let z = begin_is means space cost X acc H s runs st a e d p hs ns k (is_role X p (taken_by p H) (to_do (X.knows p)) i) in
+            z.1.takes.0 (subst⁻¹ (λ x. model.Taken (call cost st x).1) z.0 (subst (model.NotRefused cost st) z.0 w (turn_of_duty means space cost X acc H s runs st a p (to_do (X.knows p)) i)))
+        go (Say p) k (l, mk, i) =
+            let z = say_is means space cost X acc H s runs st a e d p k (is_role X p (taken_by p H) (speak l mk) i) in
+            z.1.takes.0 (subst⁻¹ (λ x. model.Taken (call cost st x).1) z.0 (subst (model.NotRefused cost st) z.0 w l (turn_of_duty means space cost X acc H s runs st a p (speak l mk) i)))
+        go (Hear p h) k (l, i) =
+            let z = hear_is means space cost X acc H s runs st a e d p h k (is_role X p (taken_by p H) (listen l) i) in
+            z.1.takes.0 (subst⁻¹ (λ x. model.Taken (call cost st x).1) z.0 (subst (model.NotRefused cost st) z.0 w l (turn_of_duty means space cost X acc H s runs st a p (listen l) i)))
+        go (Register r n) k i = absurd i
+        go (Atom n) k i = absurd i
+        go (Tuple parts) k i = absurd i
+        go (Crypt text key) k i = absurd i
+        go (Apply f parts) k i = absurd i
+        go (Shape h) k i = absurd i
+        go (Part h j) k i = absurd i
+        go (Unlock h j) k i = absurd i
+        go (Same h j) k i = absurd i
+        go Space k i = absurd i
+
+  unbuilt_along : (es H : List (Step S)) → Every (Unbuilt means space cost X) es → Along means space cost X (λ B e. Unbuilt means space cost X e) H es
+  unbuilt_along [] H u = tt
+  unbuilt_along (e ∷ es) H u = (u.0, unbuilt_along es (H ++ (e ∷ [])) u.1)
+
+  suffices_to : (R : Tree → Tree) (es H : List (Step S)) (s : S) (runs : List Run) (st : State) (s' : S) (runs' : List Run) → Now H s runs st → Happened means space cost s runs (replies_of H) es s' runs'
+      → Suffices means space cost X R H es → model.Suffices X cost R st (events es)
+  suffices_to R [] H s runs st s' runs' a h w = tt
+  suffices_to R (e ∷ es) H s runs st s' runs' a h w =
+      suffices_first H s runs st a e h.0 R ev' (events es)
+      (subst⁻¹ (λ b. cond b ((model.costs X cost R X.roles ≤ st.space) × model.Along cost (model.Unbuilt cost) (call cost st (event means space cost X acc e)).0 (events es))
+          (model.Suffices X cost R (call cost st (event means space cost X acc e)).0 (events es))) (starts_kind H s runs st a e h.0 e.asked)
+      (go (to_start means space cost X H e.asked) w
+      (λ u. suffices_to R es (H ++ (e ∷ [])) e.after e.runs (call cost st (event means space cost X acc e)).0 s' runs' (at_next means space cost X acc H s runs st a e h.0) (go_on H e es s' runs' h.1) u)))
+    where
+      ev' : Event
+      ev' = event means space cost X acc e
+
+      then : Now (H ++ (e ∷ [])) e.after e.runs (call cost st (event means space cost X acc e)).0
+      then = at_next means space cost X acc H s runs st a e h.0
+
+      rest : Happened means space cost e.after e.runs (replies_of (H ++ (e ∷ []))) es s' runs'
+      rest = go_on H e es s' runs' h.1
+
+      go : (b : Bool) → cond b ((model.costs X cost R X.roles ≤ space e.before) × Every (Unbuilt means space cost X) es) (Suffices means space cost X R (H ++ (e ∷ [])) es)
+          → (Suffices means space cost X R (H ++ (e ∷ [])) es → model.Suffices X cost R (call cost st (event means space cost X acc e)).0 (events es))
+          → cond b ((model.costs X cost R X.roles ≤ st.space) × model.Along cost (model.Unbuilt cost) (call cost st (event means space cost X acc e)).0 (events es))
+          (model.Suffices X cost R (call cost st (event means space cost X acc e)).0 (events es))
+      go true w k = (
+        subst⁻¹ (λ n. model.costs X cost R X.roles ≤ n) (free_is H s runs st a e h.0) w.0,
+        along_to (λ B e. Unbuilt means space cost X e) (model.Unbuilt cost) (λ H s runs st a e d u. unbuilt_to H s runs st a e d u) es (H ++ (e ∷ [])) e.after e.runs (call cost st (event means space cost X acc e)).0 s' runs' then rest
+            (unbuilt_along es (H ++ (e ∷ [])) w.1),
+      )
+      go false w k = k w
+
+  -- the law, where steps from new runs have led
+  module _ (small : (s : S) → Small (means s)) (first : S) (new : List Run) (b : Begins means space cost X first new) where
+    begun : Now [] first new (sessions.new_runs X (space first))
+    begun = at_start means space cost X acc first new b
+
+    pub lawful_end : (H : List (Step S)) (s : S) (runs : List Run) → Happened means space cost first new [] H s runs → Lawful means space cost X H s runs
+    lawful_end H s runs h = record {
+      derived = derived small H s runs st end;
+      decided = along (Decided means space cost X) (λ H s runs st a e d. decided means space cost X acc H s runs st a e d) H [] first new (sessions.new_runs X (space first)) s runs begun h;
+      chosen = λ ρ f.
+          let fair : model.Fair X cost ρ (sessions.new_runs X (space first)) (events H) = record {
+            start = along_to (StartsFrom means space cost X ρ) (model.StartsFrom X ρ) (λ H s runs st a e d w. start_to H s runs st a e d ρ w) H [] first new (sessions.new_runs X (space first)) s runs begun h f.start;
+            arrive = along_to (AsSaid means space cost X) model.AsSaid (λ H s runs st a e d w. arrive_to H s runs st a e d w) H [] first new (sessions.new_runs X (space first)) s runs begun h f.arrive;
+            suffice = suffices_to (reading_of ρ) H [] first new (sessions.new_runs X (space first)) s runs begun h f.suffice;
+          } in
+          let z = (session_law X acc cost (space first) (events H)).chosen ρ fair in
+          (along_from (NotRefused means space cost X) (model.NotRefused cost) (λ H s runs st a e d w. not_refused_from H s runs st a e d w) H [] first new (sessions.new_runs X (space first)) s runs begun h z.0,
+          all_read small H s runs st end (reading_of ρ) z.1,
+          all_share small H s runs st end z.2);
+    }
+      where
+        st : State
+        st = sessions.after cost (sessions.new_runs X (space first)) (events H)
+
+        end : Now H s runs (sessions.after cost (sessions.new_runs X (space first)) (events H))
+        end = at_end H [] first new (sessions.new_runs X (space first)) s runs begun h
+
+    -- and at every point before
+    part_happened : (es rest : List (Step S)) (s : S) (runs : List Run) (rs : List Reply) (s' : S) (runs' : List Run) → Happened means space cost s runs rs (es ++ rest) s' runs'
+        → Happened means space cost s runs rs es (store_after s es) (runs_after runs es)
+    part_happened [] rest s runs rs s' runs' h = (refl, refl)
+    part_happened (e ∷ es) rest s runs rs s' runs' h = (h.0, part_happened es rest e.after e.runs (rs ++ (e.reply ∷ [])) s' runs' h.1)
+
+    pub lawful_points : (H : List (Step S)) (s : S) (runs : List Run) → Happened means space cost first new [] H s runs
+        → (es rest : List (Step S)) → H ≡ es ++ rest → Lawful means space cost X es (store_after first es) (runs_after new es)
+    lawful_points H s runs h es rest e =
+        lawful_end es (store_after first es) (runs_after new es) (part_happened es rest first new [] s runs (subst (λ l. Happened means space cost first new [] l s runs) e h))
