@@ -37,10 +37,9 @@ use Rattle.run.specs.Plain.{new_plain}
 use Rattle.run.specs.Shown.{Meaning}
 use Rattle.sessions.specs.declared.reply.Reply.{Reply}
 use Rattle.sessions.specs.declared.request.Request.{Request}
-use Rattle.sessions.specs.Going.{Begins, Goes}
-use Rattle.sessions.specs.Performing.{Performed}
+use Rattle.sessions.specs.Going.{Begins}
+use Rattle.sessions.specs.Performing.{Performed, PerformedText}
 use Rattle.sessions.specs.Plays.{Playing, plays_of, no_run}
-use Rattle.sessions.specs.Traces.{Trace, start}
 use Rattle.sessions.specs.Starting.{short_count, IsNew, NewRuns}
 use Rattle.sessions.proofs.PlainLaw.{plain_law}
 use Rattle.sessions.proofs.Zips.{zip_long, zip_at}
@@ -104,24 +103,7 @@ module _ (limits : Limits) (text : List ℕ) (T : Translation) (s : Staged (tran
         rows = ap (λ (p : Player). p.rows) (sym (get_or-map player (vec_items T.roles) k role)) ∙ (w.each k (player role) (omega (arith, l, long, many))).rows
 
     module _ {S : Type 0} (means : S → Meaning) (space : S → ℕ) (cost : Tree → ℕ) (old : S) where
-      -- what was performed
-      traced : (new : S) (qs : List Request) (rs : List Reply) (es : List Event) → Trace means space cost X old qs new rs es → Performed means space cost limits text qs old new rs
-      traced new qs rs es t = record {
-        spec = a.spec;
-        scope = a.scope;
-        stage = G;
-        declares = a.declares;
-        accepted = a.lined;
-        events = es;
-        trace = t;
-        lawful = λ ds rest e. session_law X w.accepted cost (space old) ds;
-      }
-
-      -- nothing yet
-      pub nothing_traced : (qs : List Request) → (count : ℕ) × (rs : List Reply) × Performed means space cost limits text (take count qs) old old rs
-      nothing_traced qs = (0, [], traced old [] [] [] start)
-
-      module _ (new : S) (requests : List Request) (runs runs' : List Run) (z : NewRuns (vec_items T.roles) runs) where
+      module _ (runs : List Run) (z : NewRuns (vec_items T.roles) runs) where
         begins : Begins means space cost X old runs
         begins = record {
           accepted = w.accepted;
@@ -129,8 +111,23 @@ module _ (limits : Limits) (text : List ℕ) (T : Translation) (s : Staged (tran
           stands = record { space = refl; each = λ k run l. runs_stand runs z (means old) (space old) k run l };
         }
 
-        pub performed : (replies : Vec Reply Global) → Goes means space cost old new runs runs' requests (Ok replies) → Performed means space cost limits text requests old new (vec_items replies)
-        performed replies g = let x = g X begins in traced new requests (vec_items replies) x.events x.trace
+        -- what was performed on them
+        pub performed : (new : S) (runs' : List Run) (requests : List Request) (replies : List Reply) → Performed means space cost old new runs runs' requests replies
+            → PerformedText means space cost limits text requests old new replies
+        performed new runs' requests replies p = record {
+          spec = a.spec;
+          scope = a.scope;
+          stage = G;
+          declares = a.declares;
+          accepted = a.lined;
+          fresh = runs;
+          left = runs';
+          begins = begins;
+          session = p;
+          lawful = λ es rest e. p.lawful X old runs [] begins (refl, refl) es rest e;
+        }
 
-        pub began : (e : AllocError) → Goes means space cost old new runs runs' requests (Err e) → (count : ℕ) × (rs : List Reply) × Performed means space cost limits text (take count requests) old new rs
-        began e g = let x = g X begins in (x.count, x.replies, traced new (take x.count requests) x.replies x.events x.trace)
+        pub performed_some : (new : S) (runs' : List Run) (requests : List Request)
+            → (count : ℕ) × (replies : List Reply) × Performed means space cost old new runs runs' (take count requests) replies
+            → (count : ℕ) × (replies : List Reply) × PerformedText means space cost limits text (take count requests) old new replies
+        performed_some new runs' requests (n, rs, p) = (n, rs, performed new runs' (take n requests) rs p)

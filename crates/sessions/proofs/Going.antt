@@ -1,125 +1,81 @@
--- Requests one after the other, beside the model's session.
-use Rattle.std.proofs.Common.{◌≡◌, ℕ, ◌+◌, ◌<◌, List, [], ◌∷◌, ◌++◌, length, take, get_or, Ok, sym, refl, ap, ◌∙◌, subst, Bool, true, false, cond, ltb}
+-- Requests one after the other.
+use Rattle.std.proofs.Common.{◌≡◌, ℕ, ◌+◌, ◌<◌, List, [], ◌∷◌, ◌++◌, length, map, take, get_or, Ok, sym, refl, ap, ◌∙◌, subst, append-nil, append_assoc}
 use Rattle.std.proofs.lemmas.List.{take_more}
-use mathlib.Core.Option.{none as nothing}
 use mathlib.Core.Path.{subst⁻¹}
 use Rattle.model.specs.Trees.{Tree}
-use Rattle.model.specs.Specifications.{Specification}
-use Rattle.model.specs.Programs.{Accepted}
-use Rattle.model.specs.Sessions as model
-use Rattle.model.specs.Sessions.{State, Event, say, other, Answer, taken, new_runs}
-use Rattle.model.proofs.Attends.{AllAttend, new_attend}
-use Rattle.model.proofs.Attending.{call_attends}
-use Rattle.model.proofs.Answering.{decides}
-use Rattle.model.proofs.Machine.{no_some}
 use Rattle.run.specs.declared.run.Run.{Run}
-use Rattle.run.specs.Shown.{Meaning}
+use Rattle.run.specs.Shown.{Meaning, Small}
 use Rattle.sessions.specs.declared.reply.Reply.{Reply}
 use Rattle.sessions.specs.declared.request.Request.{Request}
-use Rattle.sessions.specs.declared.request.Request.TheVariants.{Say}
-use Rattle.sessions.specs.Going.{Begins, Gone, Began}
+use Rattle.sessions.specs.Happening.{Named, Did, Happened}
 use Rattle.sessions.specs.Moving.{Does}
-use Rattle.sessions.specs.Plays.{Playing, plays_of, play}
-use Rattle.sessions.specs.Replying.{Replies}
-use Rattle.sessions.specs.Requests.{event_of}
-use Rattle.sessions.specs.Standing.{Stands}
-use Rattle.sessions.specs.Traces.{start, next, StepIn}
-use Rattle.sessions.proofs.Playing.{AllShaped, play_same, call_shaped}
-use Rattle.sessions.proofs.Saying.{say_valued}
-use Rattle.sessions.proofs.Shaped.{program_shaped}
-
-module _ (X : Specification) (c : Tree → ℕ) where
-  -- whatever was called, the runs attend to their stages
-  reached : (es : List Event) (s : State) → AllAttend X s → AllShaped s → AllAttend X (model.after c s es) × AllShaped (model.after c s es)
-  reached [] s a h = (a, h)
-  reached (e ∷ es) s a h = reached es (model.call c s e).0 (call_attends X c s e a) (call_shaped c s h e)
-
-  then_one : (es : List Event) (e : Event) (s : State) → model.after c s (es ++ (e ∷ [])) ≡ (model.call c (model.after c s es) e).0
-  then_one [] e s = refl
-  then_one (x ∷ es) e s = then_one es e (model.call c s x).0
-
-  -- one event more
-  pub next_same : Accepted X → (n : ℕ) (es : List Event) (e : Event)
-      → play c (plays_of (model.after c (new_runs X n) es)) e
-      ≡ (plays_of (model.call c (model.after c (new_runs X n) es) e).0, (model.call c (model.after c (new_runs X n) es) e).1)
-  next_same acc n es e =
-      let r = reached es (new_runs X n) (new_attend X acc n) (λ r. (0, program_shaped X acc r)) in
-      let s = model.after c (new_runs X n) es in
-      play_same c s r.1 e ((decides X c s r.0).numbered e)
-
-  pub next_valued : Accepted X → (n : ℕ) (es : List Event) (m : Meaning) (rs : List Reply) (q : Request) (role : ℕ) → q ≡ Say role
-      → (model.call c (model.after c (new_runs X n) es) (event_of X.roles m rs q)).1 ≡ taken nothing → ⊥
-  next_valued acc n es m rs q role e = go (ltb role X.roles) (ap (λ p. (model.call c s (event_of X.roles m rs p)).1) e)
-    where
-      s : State
-      s = model.after c (new_runs X n) es
-
-      all : AllShaped s
-      all = (reached es (new_runs X n) (new_attend X acc n) (λ r. (0, program_shaped X acc r))).1
-
-      one : (b : Bool) → (model.call c s (cond b (say role) other)).1 ≡ taken nothing → ⊥
-      one true h = let v = say_valued c s role all nothing h in no_some v.1
-      one false h = absurd (cc)
-
-      go : (b : Bool) → (model.call c s (event_of X.roles m rs q)).1 ≡ (model.call c s (cond b (say role) other)).1 → (model.call c s (event_of X.roles m rs q)).1 ≡ taken nothing → ⊥
-      go b p h = one b (sym p ∙ h)
+use Rattle.sessions.specs.Observed.{Step}
+use Rattle.sessions.specs.Performing.{Performed}
+use Rattle.sessions.proofs.RunLaw.{lawful_points}
 
 module _ {S : Type 0} (means : S → Meaning) (space : S → ℕ) (cost : Tree → ℕ) where
-  pub none_gone : (X : Specification) (s : S) (runs : List Run) → Begins means space cost X s runs → Gone means space cost X s s runs [] []
-  none_gone X s runs b = record { events = []; trace = start; many = b.many; stands = b.stands }
+  asked_more : (H : List (Step S)) (e : Step S) → map (λ (x : Step S). x.asked) (H ++ (e ∷ [])) ≡ map (λ (x : Step S). x.asked) H ++ (e.asked ∷ [])
+  asked_more [] e = refl
+  asked_more (x ∷ H) e = ap (λ l. x.asked ∷ l) (asked_more H e)
 
-  -- one request more
-  pub one_gone : (X : Specification) → Accepted X → (first s s' : S) (runs runs' : List Run) (qs : List Request) (rs : List Reply) (q : Request) (r : Reply)
-      → Does means space cost s s' runs runs' rs q (Ok r) → Gone means space cost X first s runs qs rs → Gone means space cost X first s' runs' (qs ++ (q ∷ [])) (rs ++ (r ∷ []))
-  one_gone X acc first s s' runs runs' qs rs q r d g = record {
-    events = g.events ++ (e ∷ []);
-    trace = next g.trace q s' r step;
-    many = d.many ∙ g.many;
-    stands = subst⁻¹ (λ x. Stands (means s') (space s') runs' (plays_of x)) (then_one X cost g.events e (new_runs X (space first)))
-        (subst (λ x. Stands (means s') (space s') runs' x.0) same (stands_here));
-  }
-    where
-      st : State
-      st = model.after cost (new_runs X (space first)) g.events
+  replied_more : (H : List (Step S)) (e : Step S) → map (λ (x : Step S). x.reply) (H ++ (e ∷ [])) ≡ map (λ (x : Step S). x.reply) H ++ (e.reply ∷ [])
+  replied_more [] e = refl
+  replied_more (x ∷ H) e = ap (λ l. x.reply ∷ l) (replied_more H e)
 
-      e : Event
-      e = event_of X.roles (means s) rs q
+  named_more : (H : List (Step S)) (e : Step S) (rs : List Reply) → Named rs H → e.earlier ≡ rs ++ map (λ (x : Step S). x.reply) H → Named rs (H ++ (e ∷ []))
+  named_more [] e rs n q = (q ∙ append-nil rs, tt)
+  named_more (x ∷ H) e rs n q = (n.0, named_more H e (rs ++ (x.reply ∷ [])) n.1 (q ∙ sym (append_assoc rs (x.reply ∷ []) (map (λ (x : Step S). x.reply) H))))
 
-      same : play cost (plays_of st) e ≡ (plays_of (model.call cost st e).0, (model.call cost st e).1)
-      same = next_same X cost acc (space first) g.events e
+  happened_more : (H : List (Step S)) (e : Step S) (first : S) (fresh : List Run) (s : S) (runs : List Run) → Happened means space cost first fresh H s runs → Did means space cost s runs e
+      → Happened means space cost first fresh (H ++ (e ∷ [])) e.after e.runs
+  happened_more [] e first fresh s runs h d = (subst (λ z. Did means space cost z fresh e) h.0 (subst (λ z. Did means space cost s z e) h.1 d), (refl, refl))
+  happened_more (x ∷ H) e first fresh s runs h d = (h.0, happened_more H e x.after x.runs s runs h.1 d)
 
-      stands_here : Stands (means s') (space s') runs' (play cost (plays_of st) e).0
-      stands_here = subst (λ n. Stands (means s') (space s') runs' (play cost (plays_of st) (event_of n (means s) rs q)).0) g.many (d.stands (plays_of st) g.stands)
-
-      replied_here : Replies means space cost X.roles (λ k. (st.views k).memory) (play cost (plays_of st) e).1 rs s s' q r
-      replied_here =
-          subst (λ n. Replies means space cost n (λ k. (st.views k).memory) (play cost (plays_of st) (event_of n (means s) rs q)).1 rs s s' q r) g.many
-          (d.replied (plays_of st) g.stands)
-
-      step : StepIn means space cost X st e rs s s' q r
-      step = record {
-        kept = d.kept;
-        leaves = sym stands_here.space ∙ ap (λ (x : Playing × Answer). x.0.space) same;
-        valued = next_valued X cost acc (space first) g.events (means s) rs q;
-        replied = subst (λ (x : Playing × Answer). Replies means space cost X.roles (λ k. (st.views k).memory) x.1 rs s s' q r) same replied_here;
-      }
-
-  -- the loop
-  abbrev pub Halfway : S → S → List Run → List Run → List Request → List Reply → Type 0
-  Halfway first s runs₀ runs qs rs = (X : Specification) → Begins means space cost X first runs₀ → Gone means space cost X first s runs qs rs
+  -- so far
+  pub record Halfway (first s : S) (fresh runs : List Run) (qs : List Request) (rs : List Reply) : Type 0 where
+    pub history : List (Step S)
+    pub asked : map (λ (x : Step S). x.asked) history ≡ qs
+    pub replied : map (λ (x : Step S). x.reply) history ≡ rs
+    pub named : Named [] history
+    pub happened : Happened means space cost first fresh history s runs
 
   pub halfway_start : (s : S) (runs : List Run) → Halfway s s runs runs [] []
-  halfway_start s runs X b = none_gone X s runs b
+  halfway_start s runs = record { history = []; asked = refl; replied = refl; named = tt; happened = (refl, refl) }
 
-  -- where memory lacks, what was performed was
-  pub halfway_began : (first s : S) (runs₀ runs : List Run) (qs : List Request) (n : ℕ) (rs : List Reply) → Halfway first s runs₀ runs (take n qs) rs
-      → (X : Specification) → Begins means space cost X first runs₀ → Began means space cost X first s qs
-  halfway_began first s runs₀ runs qs n rs h X b = let g = h X b in record { count = n; replies = rs; events = g.events; trace = g.trace }
+  -- one request more
+  pub halfway_one : (first s s' : S) (fresh runs runs' : List Run) (qs : List Request) (rs : List Reply) (q : Request) (r : Reply)
+      → Does means space cost s s' runs runs' rs q (Ok r) → Halfway first s fresh runs qs rs → Halfway first s' fresh runs' (qs ++ (q ∷ [])) (rs ++ (r ∷ []))
+  halfway_one first s s' fresh runs runs' qs rs q r d h = record {
+    history = h.history ++ (e ∷ []);
+    asked = asked_more h.history e ∙ ap (λ l. l ++ (q ∷ [])) h.asked;
+    replied = replied_more h.history e ∙ ap (λ l. l ++ (r ∷ [])) h.replied;
+    named = named_more h.history e [] h.named (sym h.replied);
+    happened = happened_more h.history e first fresh s runs h.happened (record { before = refl; does = d });
+  }
+    where
+      e : Step S
+      e = record { earlier = rs; asked = q; reply = r; before = s; after = s'; runs = runs' }
 
-  pub halfway_more : (first s s' : S) (runs₀ runs runs' : List Run) (qs : List Request) (i : ℕ) (q : Request) → i < length qs → q ≡ get_or qs i q → (xs rs rs' : List Reply) → xs ≡ rs → (r : Reply)
-      → Does means space cost s s' runs runs' xs q (Ok r) → rs' ≡ rs ++ (r ∷ []) → Halfway first s runs₀ runs (take i qs) rs → Halfway first s' runs₀ runs' (take (i + 1) qs) rs'
-  halfway_more first s s' runs₀ runs runs' qs i q l is xs rs rs' same r o e h X b =
-      subst⁻¹ (λ zs. Gone means space cost X first s' runs' zs rs') (take_more qs i q l)
-      (subst⁻¹ (λ ys. Gone means space cost X first s' runs' (take i qs ++ (get_or qs i q ∷ [])) ys) e
-      (one_gone X b.accepted first s s' runs runs' (take i qs) rs (get_or qs i q) r
-      (subst (λ p. Does means space cost s s' runs runs' rs p (Ok r)) is (subst (λ zs. Does means space cost s s' runs runs' zs q (Ok r)) same o)) (h X b)))
+  pub halfway_more : (first s s' : S) (fresh runs runs' : List Run) (qs : List Request) (i : ℕ) (q : Request) → i < length qs → q ≡ get_or qs i q → (xs rs rs' : List Reply) → xs ≡ rs → (r : Reply)
+      → Does means space cost s s' runs runs' xs q (Ok r) → rs' ≡ rs ++ (r ∷ []) → Halfway first s fresh runs (take i qs) rs → Halfway first s' fresh runs' (take (i + 1) qs) rs'
+  halfway_more first s s' fresh runs runs' qs i q l is xs rs rs' same r o e h =
+      subst⁻¹ (λ zs. Halfway first s' fresh runs' zs rs') (take_more qs i q l)
+      (subst⁻¹ (λ ys. Halfway first s' fresh runs' (take i qs ++ (get_or qs i q ∷ [])) ys) e
+      (halfway_one first s s' fresh runs runs' (take i qs) rs (get_or qs i q) r
+      (subst (λ p. Does means space cost s s' runs runs' rs p (Ok r)) is (subst (λ zs. Does means space cost s s' runs runs' zs q (Ok r)) same o)) h))
+
+  -- what was performed is lawful
+  pub all_performed : (small : (s : S) → Small (means s)) (first s : S) (fresh runs : List Run) (qs : List Request) (rs : List Reply) → Halfway first s fresh runs qs rs
+      → Performed means space cost first s fresh runs qs rs
+  all_performed small first s fresh runs qs rs h = record {
+    history = h.history;
+    asked = h.asked;
+    replied = h.replied;
+    named = h.named;
+    happened = h.happened;
+    lawful = λ X old new past b k es rest e. lawful_points means space cost X b.accepted small old new b past first fresh k h.history s runs h.happened es rest e;
+  }
+
+  pub some_performed : (small : (s : S) → Small (means s)) (first s : S) (fresh runs : List Run) (qs : List Request) (n : ℕ) (rs : List Reply) → Halfway first s fresh runs (take n qs) rs
+      → (count : ℕ) × (replies : List Reply) × Performed means space cost first s fresh runs (take count qs) replies
+  some_performed small first s fresh runs qs n rs h = (n, rs, all_performed small first s fresh runs (take n qs) rs h)

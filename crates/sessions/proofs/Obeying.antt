@@ -171,7 +171,7 @@ module _ {S : Type 0} (means : S → Meaning) (space : S → ℕ) (cost : Tree �
         let h = head_of (drop (length (taken_by r H)) (duties X r)) (to_do (X.knows r)) e in
         (a.tells r).ahead ∙ ap (λ (l : List (Step S)). drop (length l) (stages X r)) (begins_first X r (taken_by r H) (to_do (X.knows r)) h.0 h.1 tt)
 
-    module _ (e : Step S) (d : Did means space cost s runs (map (λ x. x.reply) H) e) where
+    module _ (e : Step S) (d : Did means space cost s runs e) where
       abbrev ev : Event
       ev = event means space cost X acc e
 

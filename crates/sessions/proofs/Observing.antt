@@ -148,7 +148,7 @@ module _ {S : Type 0} (means : S → Meaning) (space : S → ℕ) (cost : Tree �
     tells = λ r. told_new means X r;
   }
 
-  module _ (H : List (Step S)) (s : S) (runs : List Run) (st : State) (a : At H s runs st) (e : Step S) (d : Did means space cost s runs (map (λ x. x.reply) H) e) where
+  module _ (H : List (Step S)) (s : S) (runs : List Run) (st : State) (a : At H s runs st) (e : Step S) (d : Did means space cost s runs e) where
     stands_here : Stands (means e.before) (space e.before) runs (plays_of st)
     stands_here = subst⁻¹ (λ z. Stands (means z) (space z) runs (plays_of st)) d.before a.stands
 

@@ -44,57 +44,45 @@ module _ {S : Type 0} (means : S → Meaning) (space : S → ℕ) (cost : Tree �
   abbrev events : List (Step S) → List Event
   events H = map (event means space cost X acc) H
 
-  abbrev replies_of : List (Step S) → List Reply
-  replies_of H = map (λ x. x.reply) H
-
-  -- a step more
-  reply_more : (H : List (Step S)) (e : Step S) → replies_of H ++ (e.reply ∷ []) ≡ replies_of (H ++ (e ∷ []))
-  reply_more [] e = refl
-  reply_more (x ∷ H) e = ap (λ l. x.reply ∷ l) (reply_more H e)
-
-  go_on : (H : List (Step S)) (e : Step S) (es : List (Step S)) (s' : S) (runs' : List Run)
-      → Happened means space cost e.after e.runs (replies_of H ++ (e.reply ∷ [])) es s' runs' → Happened means space cost e.after e.runs (replies_of (H ++ (e ∷ []))) es s' runs'
-  go_on H e es s' runs' = subst (λ l. Happened means space cost e.after e.runs l es s' runs') (reply_more H e)
-
   -- where all steps lead
-  at_end : (es H : List (Step S)) (s : S) (runs : List Run) (st : State) (s' : S) (runs' : List Run) → Now H s runs st → Happened means space cost s runs (replies_of H) es s' runs'
+  at_end : (es H : List (Step S)) (s : S) (runs : List Run) (st : State) (s' : S) (runs' : List Run) → Now H s runs st → Happened means space cost s runs es s' runs'
       → Now (H ++ es) s' runs' (sessions.after cost st (events es))
   at_end [] H s runs st s' runs' a h =
       subst⁻¹ (λ l. Now l s' runs' st) (append-nil H) (subst⁻¹ (λ z. Now H z runs' st) h.0 (subst⁻¹ (λ z. Now H s z st) h.1 a))
   at_end (e ∷ es) H s runs st s' runs' a h =
       subst (λ l. Now l s' runs' (sessions.after cost (call cost st (event means space cost X acc e)).0 (events es))) (append_assoc H (e ∷ []) es)
-      (at_end es (H ++ (e ∷ [])) e.after e.runs (call cost st (event means space cost X acc e)).0 s' runs' (at_next means space cost X acc H s runs st a e h.0) (go_on H e es s' runs' h.1))
+      (at_end es (H ++ (e ∷ [])) e.after e.runs (call cost st (event means space cost X acc e)).0 s' runs' (at_next means space cost X acc H s runs st a e h.0) h.1)
 
   -- something of each step that follows from where it is made
   module _ (Q : List (Step S) → Step S → Type 0) where
-    along : ((H : List (Step S)) (s : S) (runs : List Run) (st : State) → Now H s runs st → (e : Step S) → Did means space cost s runs (replies_of H) e → Q H e)
-        → (es H : List (Step S)) (s : S) (runs : List Run) (st : State) (s' : S) (runs' : List Run) → Now H s runs st → Happened means space cost s runs (replies_of H) es s' runs'
+    along : ((H : List (Step S)) (s : S) (runs : List Run) (st : State) → Now H s runs st → (e : Step S) → Did means space cost s runs e → Q H e)
+        → (es H : List (Step S)) (s : S) (runs : List Run) (st : State) (s' : S) (runs' : List Run) → Now H s runs st → Happened means space cost s runs es s' runs'
         → Along means space cost X Q H es
     along f [] H s runs st s' runs' a h = tt
     along f (e ∷ es) H s runs st s' runs' a h = (
       f H s runs st a e h.0,
-      along f es (H ++ (e ∷ [])) e.after e.runs (call cost st (event means space cost X acc e)).0 s' runs' (at_next means space cost X acc H s runs st a e h.0) (go_on H e es s' runs' h.1),
+      along f es (H ++ (e ∷ [])) e.after e.runs (call cost st (event means space cost X acc e)).0 s' runs' (at_next means space cost X acc H s runs st a e h.0) h.1,
     )
 
     module _ (Z : State → Event → Type 0) where
       -- from what was observed to the model
-      along_to : ((H : List (Step S)) (s : S) (runs : List Run) (st : State) → Now H s runs st → (e : Step S) → Did means space cost s runs (replies_of H) e → Q H e → Z st (event means space cost X acc e))
-          → (es H : List (Step S)) (s : S) (runs : List Run) (st : State) (s' : S) (runs' : List Run) → Now H s runs st → Happened means space cost s runs (replies_of H) es s' runs'
+      along_to : ((H : List (Step S)) (s : S) (runs : List Run) (st : State) → Now H s runs st → (e : Step S) → Did means space cost s runs e → Q H e → Z st (event means space cost X acc e))
+          → (es H : List (Step S)) (s : S) (runs : List Run) (st : State) (s' : S) (runs' : List Run) → Now H s runs st → Happened means space cost s runs es s' runs'
           → Along means space cost X Q H es → model.Along cost Z st (events es)
       along_to f [] H s runs st s' runs' a h w = tt
       along_to f (e ∷ es) H s runs st s' runs' a h w = (
         f H s runs st a e h.0 w.0,
-        along_to f es (H ++ (e ∷ [])) e.after e.runs (call cost st (event means space cost X acc e)).0 s' runs' (at_next means space cost X acc H s runs st a e h.0) (go_on H e es s' runs' h.1) w.1,
+        along_to f es (H ++ (e ∷ [])) e.after e.runs (call cost st (event means space cost X acc e)).0 s' runs' (at_next means space cost X acc H s runs st a e h.0) h.1 w.1,
       )
 
       -- and back
-      along_from : ((H : List (Step S)) (s : S) (runs : List Run) (st : State) → Now H s runs st → (e : Step S) → Did means space cost s runs (replies_of H) e → Z st (event means space cost X acc e) → Q H e)
-          → (es H : List (Step S)) (s : S) (runs : List Run) (st : State) (s' : S) (runs' : List Run) → Now H s runs st → Happened means space cost s runs (replies_of H) es s' runs'
+      along_from : ((H : List (Step S)) (s : S) (runs : List Run) (st : State) → Now H s runs st → (e : Step S) → Did means space cost s runs e → Z st (event means space cost X acc e) → Q H e)
+          → (es H : List (Step S)) (s : S) (runs : List Run) (st : State) (s' : S) (runs' : List Run) → Now H s runs st → Happened means space cost s runs es s' runs'
           → model.Along cost Z st (events es) → Along means space cost X Q H es
       along_from f [] H s runs st s' runs' a h w = tt
       along_from f (e ∷ es) H s runs st s' runs' a h w = (
         f H s runs st a e h.0 w.0,
-        along_from f es (H ++ (e ∷ [])) e.after e.runs (call cost st (event means space cost X acc e)).0 s' runs' (at_next means space cost X acc H s runs st a e h.0) (go_on H e es s' runs' h.1) w.1,
+        along_from f es (H ++ (e ∷ [])) e.after e.runs (call cost st (event means space cost X acc e)).0 s' runs' (at_next means space cost X acc H s runs st a e h.0) h.1 w.1,
       )
 
   -- what a register's handle names is the value in the memory
@@ -136,7 +124,7 @@ module _ {S : Type 0} (means : S → Meaning) (space : S → ℕ) (cost : Tree �
         (z.0, in_register r i run z.0 l z.1, in_register q j run z.0 k z.2)
 
   -- one step as an event, by its kind
-  module _ (H : List (Step S)) (s : S) (runs : List Run) (st : State) (a : Now H s runs st) (e : Step S) (d : Did means space cost s runs (replies_of H) e) where
+  module _ (H : List (Step S)) (s : S) (runs : List Run) (st : State) (a : Now H s runs st) (e : Step S) (d : Did means space cost s runs e) where
     abbrev ev : Event
     ev = event means space cost X acc e
 
@@ -285,7 +273,7 @@ module _ {S : Type 0} (means : S → Meaning) (space : S → ℕ) (cost : Tree �
   unbuilt_along [] H u = tt
   unbuilt_along (e ∷ es) H u = (u.0, unbuilt_along es (H ++ (e ∷ [])) u.1)
 
-  suffices_to : (R : Tree → Tree) (es H : List (Step S)) (s : S) (runs : List Run) (st : State) (s' : S) (runs' : List Run) → Now H s runs st → Happened means space cost s runs (replies_of H) es s' runs'
+  suffices_to : (R : Tree → Tree) (es H : List (Step S)) (s : S) (runs : List Run) (st : State) (s' : S) (runs' : List Run) → Now H s runs st → Happened means space cost s runs es s' runs'
       → Suffices means space cost X R H es → model.Suffices X cost R st (events es)
   suffices_to R [] H s runs st s' runs' a h w = tt
   suffices_to R (e ∷ es) H s runs st s' runs' a h w =
@@ -293,7 +281,7 @@ module _ {S : Type 0} (means : S → Meaning) (space : S → ℕ) (cost : Tree �
       (subst⁻¹ (λ b. cond b ((model.costs X cost R X.roles ≤ st.space) × model.Along cost (model.Unbuilt cost) (call cost st (event means space cost X acc e)).0 (events es))
           (model.Suffices X cost R (call cost st (event means space cost X acc e)).0 (events es))) (starts_kind H s runs st a e h.0 e.asked)
       (go (to_start means space cost X H e.asked) w
-      (λ u. suffices_to R es (H ++ (e ∷ [])) e.after e.runs (call cost st (event means space cost X acc e)).0 s' runs' (at_next means space cost X acc H s runs st a e h.0) (go_on H e es s' runs' h.1) u)))
+      (λ u. suffices_to R es (H ++ (e ∷ [])) e.after e.runs (call cost st (event means space cost X acc e)).0 s' runs' (at_next means space cost X acc H s runs st a e h.0) h.1 u)))
     where
       ev' : Event
       ev' = event means space cost X acc e
@@ -301,8 +289,8 @@ module _ {S : Type 0} (means : S → Meaning) (space : S → ℕ) (cost : Tree �
       then : Now (H ++ (e ∷ [])) e.after e.runs (call cost st (event means space cost X acc e)).0
       then = at_next means space cost X acc H s runs st a e h.0
 
-      rest : Happened means space cost e.after e.runs (replies_of (H ++ (e ∷ []))) es s' runs'
-      rest = go_on H e es s' runs' h.1
+      rest : Happened means space cost e.after e.runs es s' runs'
+      rest = h.1
 
       go : (b : Bool) → cond b ((model.costs X cost R X.roles ≤ space e.before) × Every (Unbuilt means space cost X) es) (Suffices means space cost X R (H ++ (e ∷ [])) es)
           → (Suffices means space cost X R (H ++ (e ∷ [])) es → model.Suffices X cost R (call cost st (event means space cost X acc e)).0 (events es))
@@ -320,7 +308,7 @@ module _ {S : Type 0} (means : S → Meaning) (space : S → ℕ) (cost : Tree �
     begun : Now [] first new (sessions.new_runs X (space first))
     begun = at_start means space cost X acc first new b
 
-    pub lawful_end : (H : List (Step S)) (s : S) (runs : List Run) → Happened means space cost first new [] H s runs → Lawful means space cost X H s runs
+    pub lawful_end : (H : List (Step S)) (s : S) (runs : List Run) → Happened means space cost first new H s runs → Lawful means space cost X H s runs
     lawful_end H s runs h = record {
       derived = derived small H s runs st end;
       decided = along (Decided means space cost X) (λ H s runs st a e d. decided means space cost X acc H s runs st a e d) H [] first new (sessions.new_runs X (space first)) s runs begun h;
@@ -342,13 +330,22 @@ module _ {S : Type 0} (means : S → Meaning) (space : S → ℕ) (cost : Tree �
         end : Now H s runs (sessions.after cost (sessions.new_runs X (space first)) (events H))
         end = at_end H [] first new (sessions.new_runs X (space first)) s runs begun h
 
-    -- and at every point before
-    part_happened : (es rest : List (Step S)) (s : S) (runs : List Run) (rs : List Reply) (s' : S) (runs' : List Run) → Happened means space cost s runs rs (es ++ rest) s' runs'
-        → Happened means space cost s runs rs es (store_after s es) (runs_after runs es)
-    part_happened [] rest s runs rs s' runs' h = (refl, refl)
-    part_happened (e ∷ es) rest s runs rs s' runs' h = (h.0, part_happened es rest e.after e.runs (rs ++ (e.reply ∷ [])) s' runs' h.1)
+  -- steps up to a point, and steps after others
+  pub happened_part : (es rest : List (Step S)) (s : S) (runs : List Run) (s' : S) (runs' : List Run) → Happened means space cost s runs (es ++ rest) s' runs'
+      → Happened means space cost s runs es (store_after s es) (runs_after runs es)
+  happened_part [] rest s runs s' runs' h = (refl, refl)
+  happened_part (e ∷ es) rest s runs s' runs' h = (h.0, happened_part es rest e.after e.runs s' runs' h.1)
 
-    pub lawful_points : (H : List (Step S)) (s : S) (runs : List Run) → Happened means space cost first new [] H s runs
-        → (es rest : List (Step S)) → H ≡ es ++ rest → Lawful means space cost X es (store_after first es) (runs_after new es)
-    lawful_points H s runs h es rest e =
-        lawful_end es (store_after first es) (runs_after new es) (part_happened es rest first new [] s runs (subst (λ l. Happened means space cost first new [] l s runs) e h))
+  pub happened_join : (es rest : List (Step S)) (s : S) (runs : List Run) (t : S) (ts : List Run) (s' : S) (runs' : List Run) → Happened means space cost s runs es t ts
+      → Happened means space cost t ts rest s' runs' → Happened means space cost s runs (es ++ rest) s' runs'
+  happened_join [] rest s runs t ts s' runs' h k = subst (λ z. Happened means space cost z runs rest s' runs') h.0 (subst (λ z. Happened means space cost t z rest s' runs') h.1 k)
+  happened_join (e ∷ es) rest s runs t ts s' runs' h k = (h.0, happened_join es rest e.after e.runs t ts s' runs' h.1 k)
+
+  -- at every point of steps that went on from others
+  pub lawful_points : (small : (s : S) → Small (means s)) (first : S) (new : List Run) → Begins means space cost X first new → (past : List (Step S)) (old : S) (runs : List Run)
+      → Happened means space cost first new past old runs → (H : List (Step S)) (s : S) (runs' : List Run) → Happened means space cost old runs H s runs'
+      → (es rest : List (Step S)) → H ≡ es ++ rest → Lawful means space cost X (past ++ es) (store_after old es) (runs_after runs es)
+  lawful_points small first new b past old runs k H s runs' h es rest e =
+      lawful_end small first new b (past ++ es) (store_after old es) (runs_after runs es)
+      (happened_join past es first new old runs (store_after old es) (runs_after runs es) k
+      (happened_part es rest old runs s runs' (subst (λ l. Happened means space cost old runs l s runs') e h)))

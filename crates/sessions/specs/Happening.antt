@@ -17,14 +17,18 @@ module _ {S : Type 0} where
   runs_after runs [] = runs
   runs_after runs (e ∷ es) = runs_after e.runs es
 
+  -- the handles of each were named by the replies to those before it, and to some earlier ones
+  abbrev pub Named : List Reply → List (Step S) → Type 0
+  Named rs [] = Unit {0}
+  Named rs (e ∷ es) = (e.earlier ≡ rs) × Named (rs ++ (e.reply ∷ [])) es
+
 module _ {S : Type 0} (means : S → Meaning) (space : S → ℕ) (cost : Tree → ℕ) where
   -- one step, from where those before it have led: it did what the contract of one call says
-  pub record Did (s : S) (runs : List Run) (rs : List Reply) (e : Step S) : Type 0 where
+  pub record Did (s : S) (runs : List Run) (e : Step S) : Type 0 where
     pub before : e.before ≡ s
-    pub earlier : e.earlier ≡ rs
     pub does : Does means space cost e.before e.after runs e.runs e.earlier e.asked (Ok e.reply)
 
   -- steps in order, to a store and runs
-  abbrev pub Happened : S → List Run → List Reply → List (Step S) → S → List Run → Type 0
-  Happened s runs rs [] s' runs' = (s' ≡ s) × (runs' ≡ runs)
-  Happened s runs rs (e ∷ es) s' runs' = Did s runs rs e × Happened e.after e.runs (rs ++ (e.reply ∷ [])) es s' runs'
+  abbrev pub Happened : S → List Run → List (Step S) → S → List Run → Type 0
+  Happened s runs [] s' runs' = (s' ≡ s) × (runs' ≡ runs)
+  Happened s runs (e ∷ es) s' runs' = Did s runs e × Happened e.after e.runs es s' runs'

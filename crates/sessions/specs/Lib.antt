@@ -2,7 +2,6 @@ pub mod Plays
 pub mod PlainLaw
 pub mod Requests
 pub mod Replying
-pub mod Traces
 pub mod Performing
 pub mod Standing
 pub mod Asking

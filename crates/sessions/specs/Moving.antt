@@ -17,7 +17,7 @@ module _ {S : Type 0} (means : S → Meaning) (space : S → ℕ) (cost : Tree �
   Does old new runs runs' rs q (Ok r) =
       Moves means space cost old new runs runs' (event_of (length runs) (means old) rs q)
       (λ memories answer. Replies means space cost (length runs) memories answer rs old new q r)
-  Does old new runs runs' rs q (Err e) = new ≡ old
+  Does old new runs runs' rs q (Err e) = (new ≡ old) × (runs' ≡ runs)
 
   -- a value is made, or want of memory shows before
   abbrev pub Builds : S → S → Result Tree StoreFault → Result Reply AllocError → Type 0

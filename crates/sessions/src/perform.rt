@@ -1,6 +1,5 @@
-// The public call: a session of a text's roles over a store.
-ghost use Rattle.sessions.specs.Going.{Goes};
-ghost use Rattle.sessions.specs.Performing.{Performs};
+// The public calls: a session of a text's roles over a store, and requests on runs that are lent.
+ghost use Rattle.sessions.specs.Performing.{Performs, PerformsOn};
 
 use crate::fault::SessionFault;
 use crate::one::one;
@@ -28,17 +27,17 @@ pub fn perform<S: Store>(
     let translation = translate(heap, text, limits)?;
     let counts = counts_of(heap, translation.declarations.functions.as_slice())?;
     let mut runs = runs_of(heap, translation.roles.as_slice(), counts.as_slice())?;
-    Ok(all(heap, store, runs.as_mut_slice(), requests)?)
+    Ok(perform_on(heap, store, runs.as_mut_slice(), requests)?)
 }
 
-// The requests one by one, on runs that are there.
-fn all<S: Store>(
+// The requests are performed one by one, on runs that are there. Roles are told by the places of their runs.
+pub fn perform_on<S: Store>(
     heap: Global,
     store: &mut S,
     runs: &mut [Run<'_>],
     requests: &[Request],
 ) -> Result<Vec<Reply>, AllocError>
-    ensures { Goes S.means S.space S.cost store.old store.new runs.old runs.new requests.now result }
+    ensures { PerformsOn S.means S.space S.cost store.old store.new runs.old runs.new requests.now result }
 {
     let mut replies = Vec::with_capacity(heap, requests.len())?;
     for request in requests {

@@ -1,6 +1,6 @@
 use Rattle.std.proofs.Common.{take}
 use Rattle.sessions.proofs.Going.{Halfway}
-use Rattle.sessions.proofs.perform.all.Given as goal
+use Rattle.sessions.proofs.perform.perform_on.Given as goal
 
 abbrev pub invariant-loop-request : goal.invariant-loop-request
 invariant-loop-request g l =
