@@ -3,9 +3,10 @@ use Rattle.std.proofs.Common.{◌≡◌, ℕ, zero, suc, List, [], ◌∷◌, �
 use mathlib.Core.Option.{Option, none as nothing, some}
 use mathlib.Core.Path.{subst⁻¹}
 use Rattle.model.specs.Lists.{Every, zip}
+use Rattle.model.specs.Trees.{Tree}
 use Rattle.model.specs.Deduction.{Party}
 use Rattle.model.specs.Roles.{Role}
-use Rattle.model.specs.Lives.{Life, after_hear, after_say, run}
+use Rattle.model.specs.Lives.{Life, starts, after_hear, after_say, run}
 use Rattle.model.specs.Specifications.{Specification, message, Duty, begin, speak, listen, life_on}
 use Rattle.model.specs.Programs.{next_role, Stage, turn_of, Turn, stage, stages_from}
 use Rattle.model.specs.Sessions.{turn_now}
@@ -19,6 +20,9 @@ no_list e = let z : ◌≡◌ {A = ℕ} 0 1 = cc in omega arith
 
 cons_head : {A : Type 0} {x y : A} {xs ys : List A} → x ∷ xs ≡ y ∷ ys → x ≡ y
 cons_head e = cc
+
+same_suc : {n m : ℕ} → suc n ≡ suc m → m ≡ n
+same_suc e = omega arith
 
 cons_tail : {A : Type 0} {x y : A} {xs ys : List A} → x ∷ xs ≡ y ∷ ys → xs ≡ ys
 cons_tail e = cc
@@ -62,6 +66,7 @@ module _ (X : Specification) (P : Party) where
     pub is : st ≡ stage (message X) P duty role role'
     pub goes : role_after X P s (take n ds ++ (duty ∷ [])) ≡ role'
     pub lived : (l : Life) → run P l ≡ some s → Every IsLine ds → run P (life_on X l (take n ds)) ≡ some role
+    pub begun : (ts : List Tree) (own : List Duty) (m : ℕ) → ds ≡ begin ts ∷ own → n ≡ suc m → Every IsLine own → run P (life_on X (starts ts) (take m own)) ≡ some role
 
   -- a line more
   line_lived : (d : Duty) (l : Life) (s s' : Role) → IsLine d → run P l ≡ some s → next_role (message X) P d s ≡ some s' → run P (life_on X l (d ∷ [])) ≡ some s'
@@ -69,6 +74,10 @@ module _ (X : Specification) (P : Party) where
   line_lived (begin ts) l s s' i q e = elim i [ ]
   line_lived (speak k mk) l s s' i q e = ap (after_say P mk (message X k)) q ∙ e
   line_lived (listen k) l s s' i q e = ap (after_hear P (message X k)) q ∙ e
+
+  start_lived : (ts : List Tree) (s s' : Role) → next_role (message X) P (begin ts) s ≡ some s' → run P (starts ts) ≡ some s'
+  unfolding run
+  start_lived ts s s' e = e
 
   life_first : (d : Duty) (ds : List Duty) (l : Life) → IsLine d → life_on X l (d ∷ ds) ≡ life_on X (life_on X l (d ∷ [])) ds
   life_first (begin ts) ds l i = elim i [ ]
@@ -95,6 +104,7 @@ module _ (X : Specification) (P : Party) where
         is = sym (cons_head i);
         goes = ap (λ (o : Option Role). elim o as (λ x. Role) [ some z ↦ z | nothing ↦ s ]) q;
         lived = λ l r i. r;
+        begun = λ ts own m i j k. absurd (omega arith);
       }
   place (c ∷ cs) (d ∷ ds) s f st rest e = go (next_role (message X) P d s) refl f.1 (λ s'. place cs ds s') e
     where
@@ -116,6 +126,9 @@ module _ (X : Specification) (P : Party) where
         goes = ap (λ (o : Option Role). elim o as (λ x. Role) [ some z ↦ role_after X P z (take (length cs) ds ++ (p.duty ∷ [])) | nothing ↦ s ]) q ∙ p.goes;
         lived = λ l r i. ap (run P) (life_first d (take (length cs) ds) l i.0)
             ∙ p.lived (life_on X l (d ∷ [])) (line_lived d l s s' i.0 r q) i.1;
+        begun = λ ts own m i j k.
+            ap (λ l. run P (life_on X (starts ts) l)) (ap (λ k. take k own) (same_suc j) ∙ ap (take (length cs)) (sym (cons_tail i)))
+            ∙ p.lived (starts ts) (start_lived ts s s' (ap (λ x. next_role (message X) P x s) (sym (cons_head i)) ∙ q)) (subst⁻¹ (Every IsLine) (cons_tail i) k);
       }
 
   pub turn_same : {C : Type 0} (cs : List C) (ds : List Duty) (s : Role) → Fitting (message X) P s ds → turn_now (drop (length cs) (stages_from (message X) P s ds)) ≡ turn_for (first_of (drop (length cs) ds))
