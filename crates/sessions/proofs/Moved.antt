@@ -22,7 +22,7 @@ use Rattle.sessions.specs.declared.reply.Reply.TheVariants as replies
 use Rattle.sessions.specs.Plays.{Playing, put, turned, play}
 use Rattle.sessions.specs.Replying.{Made, reply_by, reply_of, Untouched}
 use Rattle.sessions.specs.Requests.{of_role, of_maker}
-use Rattle.sessions.specs.Standing.{Stands, Moves}
+use Rattle.sessions.specs.Standing.{role_of, Stands, Moves}
 
 -- a store that keeps its handles shows the same
 pub shows_still : (m m' : Meaning) → Kept m m' → (run : Run) (w : Plain) → Shows m run w → Shows m' run w
@@ -49,12 +49,12 @@ module _ {S : Type 0} (means : S → Meaning) (space : S → ℕ) (cost : Tree �
 
   -- nothing is done
   pub unmoved : (s : S) (runs : List Run) (Replied : (ℕ → Memory) → Answer → Type 0) → ((memories : ℕ → Memory) → Replied memories outside) → Moves means space cost s s runs runs other Replied
-  unmoved s runs Replied f = record { kept = λ h v e. e; many = refl; stands = λ p st. st; replied = λ p st. f (λ r. (p.runs r).memory) }
+  unmoved s runs Replied f = record { kept = λ h v e. e; many = refl; others = λ k run h. refl; stands = λ p st. st; replied = λ p st. f (λ r. (p.runs r).memory) }
 
   -- a question of the runs' registers
   pub looked : (s : S) (runs : List Run) (Replied : (ℕ → Memory) → Answer → Type 0)
       → ((p : Playing) → Stands (means s) (space s) runs p → Replied (λ r. (p.runs r).memory) outside) → Moves means space cost s s runs runs other Replied
-  looked s runs Replied f = record { kept = λ h v e. e; many = refl; stands = λ p st. st; replied = f }
+  looked s runs Replied f = record { kept = λ h v e. e; many = refl; others = λ k run h. refl; stands = λ p st. st; replied = f }
 
   -- one of the runs is called
   module _ (old new : S) (runs : List Run) (r : ℕ) (l : r < length runs) (d run' : Run) (e : Call) (fault : model.Option RunFault) (answers : Answer → Type 0)
@@ -78,11 +78,12 @@ module _ {S : Type 0} (means : S → Meaning) (space : S → ℕ) (cost : Tree �
             (shows_still (means old) (means new) c.kept (get_or runs k d) (p.runs k) (st.each k d h)))
 
     -- an event that is this call
-    called_moves : (v : Event) → ((p : Playing) → play cost p v ≡ turned p r (call cost (p.runs r) p.space e)) → (Replied : (ℕ → Memory) → Answer → Type 0)
+    called_moves : (v : Event) → role_of v ≡ model.some r → ((p : Playing) → play cost p v ≡ turned p r (call cost (p.runs r) p.space e)) → (Replied : (ℕ → Memory) → Answer → Type 0)
         → ((memories : ℕ → Memory) (a : Answer) → answers a → Replied memories a) → Moves means space cost old new runs (set runs r run') v Replied
-    called_moves v is Replied f = record {
+    called_moves v own is Replied f = record {
       kept = c.kept;
       many = length-set runs r run';
+      others = λ k run h. get_or-set_other runs r k run' run (λ z. h (own ∙ ap model.some (sym z)));
       stands = λ p st. subst⁻¹ (λ x. Stands (means new) (space new) (set runs r run') x.0) (is p) (called_stands p st);
       replied = λ p st. subst⁻¹ (λ x. Replied (λ q. (p.runs q).memory) x.1) (is p) (f (λ q. (p.runs q).memory) (call cost (p.runs r) p.space e).reply (went p st).replied);
     }
@@ -97,12 +98,12 @@ module _ {S : Type 0} (means : S → Meaning) (space : S → ℕ) (cost : Tree �
         go (model.some h) i = still old new g (c.refused h i).0
 
     -- a role that is there
-    pub role_moves : (v : Event) → ((p : Playing) → play cost p v ≡ turned p r (call cost (p.runs r) p.space e)) → (Replied : Answer → Type 0) (Nobody : Type 0)
+    pub role_moves : (v : Event) → role_of v ≡ model.some r → ((p : Playing) → play cost p v ≡ turned p r (call cost (p.runs r) p.space e)) → (Replied : Answer → Type 0) (Nobody : Type 0)
         → ((a : Answer) → answers a → Replied a)
         → Moves means space cost old new runs (set runs r run') (of_role (length runs) r v) (λ memories a. cond (ltb r (length runs)) (Replied a) Nobody)
-    role_moves v is Replied Nobody f =
+    role_moves v own is Replied Nobody f =
         subst⁻¹ (λ b. Moves means space cost old new runs (set runs r run') (cond b v other) (λ memories a. cond b (Replied a) Nobody)) (lt-ltb r (length runs) l)
-        (called_moves v is (λ memories a. Replied a) (λ memories a. f a))
+        (called_moves v own is (λ memories a. Replied a) (λ memories a. f a))
 
   -- a value is made, or refused
   pub made_moves : (old new : S) (runs : List Run) (w : Result Tree StoreFault) (x : Result ℕ StoreFault) → Makes means space cost old new w x
@@ -110,6 +111,7 @@ module _ {S : Type 0} (means : S → Meaning) (space : S → ℕ) (cost : Tree �
   made_moves old new runs (Ok v) (Ok h) m = record {
     kept = m.kept;
     many = refl;
+    others = λ k run h. refl;
     stands = λ p st. enough p st (leb (cost v) p.space) (le-leb (cost v) p.space (omega (arith, st.space, m.paid)));
     replied = λ p st. (Ok h, m, refl);
   }
@@ -121,6 +123,7 @@ module _ {S : Type 0} (means : S → Meaning) (space : S → ℕ) (cost : Tree �
   made_moves old new runs (Ok v) (Err e) m = record {
     kept = λ h w i. ap (λ s. means s h) m.1 ∙ i;
     many = refl;
+    others = λ k run h. refl;
     stands = λ p st. subst⁻¹ (λ s. Stands (means s) (space s) runs (play cost p (build v)).0) m.1 (short p st (leb (cost v) p.space) (lt-leb (cost v) p.space (omega (arith, st.space, m.2))));
     replied = λ p st. (Err e, m, refl);
   }
@@ -132,6 +135,7 @@ module _ {S : Type 0} (means : S → Meaning) (space : S → ℕ) (cost : Tree �
   made_moves old new runs (Err f) (Err e) m = record {
     kept = λ h w i. ap (λ s. means s h) m.1 ∙ i;
     many = refl;
+    others = λ k run h. refl;
     stands = λ p st. subst⁻¹ (λ s. Stands (means s) (space s) runs p) m.1 st;
     replied = λ p st. (Err e, m, refl);
   }

@@ -21,5 +21,5 @@ returns g c =
     let same = untouched m g.S.Store.space g.S.Store.cost old new c.args.runs.now c.args.role (omega arith) d c.begin.new.self (plain.begin (values_of (m old) c.args.given.now) c.args.numbers.now) (fault_of c.begin.result) answers c.begin.ensures
     (λ u. replies.Done) (λ u. tt) c.begin.result refl in
     role_moves m g.S.Store.space g.S.Store.cost old new c.args.runs.now c.args.role (omega arith) d c.begin.new.self (plain.begin (values_of (m old) c.args.given.now) c.args.numbers.now) (fault_of c.begin.result) answers c.begin.ensures
-    (to_begin c.args.role (values_of (m old) c.args.given.now) c.args.numbers.now) (λ p. refl) (λ a. Took a c.done.result × Untouched old new c.done.result) _
+    (to_begin c.args.role (values_of (m old) c.args.given.now) c.args.numbers.now) refl (λ p. refl) (λ a. Took a c.done.result × Untouched old new c.done.result) _
     (λ a q. ((c.begin.result, q, c.done.ensures), subst⁻¹ (Untouched old new) c.done.ensures same))

@@ -21,5 +21,5 @@ returns g c =
     let same = untouched m g.S.Store.space g.S.Store.cost old new c.args.runs.now c.args.role (omega arith) d c.hear.new.self (plain.hear (as_option (m old c.args.handle))) (fault_of c.hear.result) answers c.hear.ensures
     (λ u. replies.Done) (λ u. tt) c.hear.result refl in
     role_moves m g.S.Store.space g.S.Store.cost old new c.args.runs.now c.args.role (omega arith) d c.hear.new.self (plain.hear (as_option (m old c.args.handle))) (fault_of c.hear.result) answers c.hear.ensures
-    (to_hear c.args.role (as_option (m old c.args.handle))) (λ p. refl) (λ a. Took a c.done.result × Untouched old new c.done.result) _
+    (to_hear c.args.role (as_option (m old c.args.handle))) refl (λ p. refl) (λ a. Took a c.done.result × Untouched old new c.done.result) _
     (λ a q. ((c.hear.result, q, c.done.ensures), subst⁻¹ (Untouched old new) c.done.ensures same))

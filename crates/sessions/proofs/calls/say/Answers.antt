@@ -20,5 +20,5 @@ returns g c =
     let same = untouched m g.S.Store.space g.S.Store.cost old new c.args.runs.now c.args.role (omega arith) d c.say.new.self (plain.say) (fault_of c.say.result) answers c.say.ensures
     replies.Handle (λ u. tt) c.say.result refl in
     role_moves m g.S.Store.space g.S.Store.cost old new c.args.runs.now c.args.role (omega arith) d c.say.new.self (plain.say) (fault_of c.say.result) answers c.say.ensures
-    (to_say c.args.role) (λ p. refl) (λ a. Told (m new) a c.told.result × Untouched old new c.told.result) _
+    (to_say c.args.role) refl (λ p. refl) (λ a. Told (m new) a c.told.result × Untouched old new c.told.result) _
     (λ a q. ((c.say.result, q, c.told.ensures), subst⁻¹ (Untouched old new) c.told.ensures same))
