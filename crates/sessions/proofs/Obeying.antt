@@ -1,8 +1,8 @@
 -- What the model's law says of a step is so of what was observed.
-use Rattle.std.proofs.Common.{◌≡◌, ℕ, zero, suc, ◌<◌, ◌≤◌, Bool, true, false, cond, ◌&&◌, T, eqb, ltb, ◌⊎◌, ◌↔◌, List, [], ◌∷◌, ◌++◌, map, length, drop, Some, None, Ok, Err, Result, Vec, sym, refl, ap, ap₂, ◌∙◌, subst, inl, inr, arith, vec_items, lt→ltb, eq-eqb, ne_eqb}
+use Rattle.std.proofs.Common.{◌≡◌, ℕ, zero, suc, ◌<◌, ◌≤◌, Bool, true, false, cond, ◌&&◌, T, eqb, ltb, ◌⊎◌, ◌↔◌, List, [], ◌∷◌, ◌++◌, map, length, drop, Some, None, Ok, Err, Result, Vec, sym, refl, ap, ap₂, ◌∙◌, subst, inl, inr, arith, vec_items, lt→ltb, eq-eqb, ne_eqb, eqb→eq}
 use Rattle.std.specs.declared.alloc.Global.{Global}
-use Rattle.std.proofs.lemmas.Bool.{lt-ltb}
-use Rattle.std.proofs.lemmas.List.{length-map}
+use Rattle.std.proofs.Common as std
+use Rattle.std.proofs.lemmas.Bool.{lt-ltb, ltb-true}
 use mathlib.Core.Option.{Option, none as nothing, some}
 use mathlib.Core.Path.{subst⁻¹}
 use Rattle.model.specs.Lists.{Every, SomeOf}
@@ -13,32 +13,36 @@ use Rattle.model.specs.Runs.{Memory, empty}
 use Rattle.model.specs.Holdings.{Stock, nothing_held, add, ValueOf, Readable}
 use Rattle.model.specs.Specifications.{Specification, message, Duty, begin as to_do, speak, listen, own, duties}
 use Rattle.model.specs.Programs.{nobody_yet, given, Turn, begins, says_line, hears_line, turn_of, Stage, stages_from, stages, all_actions, all_makes, Accepted}
-use Rattle.model.specs.Sessions.{State, Event, begin, say, hear, other, Answer, to_begin, turn_now, begins_next, next_turn, first_actions, counts_right, call}
+use Rattle.model.specs.Sessions.{State, Event, begin, say, hear, other, Answer, declined, to_begin, turn_now, begins_next, next_turn, first_actions, counts_right, call}
 use Rattle.model.specs.Sessions as sessions
 use Rattle.model.specs.SessionLaw as model
+use Rattle.model.specs.RefusalLaw.{InTurn as InTurn_of, WrongCounts, Refusals}
+use Rattle.model.proofs.RefusalLaw.{refusal_law}
 use Rattle.model.proofs.Machine.{some_inj, no_some}
-use Rattle.model.proofs.Tests.{and_both}
+use Rattle.model.proofs.Tests.{and_both, and_left, and_right}
 use Rattle.model.proofs.Fitting.{Fit, all_fitting, role_or_nothing}
 use Rattle.model.proofs.Duties.{IsLine, own_lines}
 use Rattle.model.proofs.Counts.{start_gives, stages_news}
 use Rattle.model.proofs.Lines.{good_nobody}
 use Rattle.model.proofs.Answering.{decides}
 use Rattle.run.specs.declared.run.Run.{Run}
+use Rattle.run.specs.declared.fault.RunFault.{RunFault}
+use Rattle.run.specs.Called.{said}
 use Rattle.run.specs.Shown.{Meaning, as_option}
 use Rattle.sessions.specs.declared.reply.Reply.{Reply}
 use Rattle.sessions.specs.declared.reply.Reply.TheVariants as replies
 use Rattle.sessions.specs.declared.request.Handle.{Handle}
 use Rattle.sessions.specs.declared.request.Request.{Request}
-use Rattle.sessions.specs.declared.request.Request.TheVariants.{Begin, Say, Hear}
+use Rattle.sessions.specs.declared.request.Request.TheVariants.{Begin, Say, Hear, Register, Atom, Tuple, Crypt, Apply, Shape, Part, Unlock, Same, Space}
 use Rattle.sessions.specs.Happening.{Did}
-use Rattle.sessions.specs.Observed.{Step, taken as is_taken, taken_by, values_at, values_in, each_once, names_of, names_of_all, stock, first_of, next_duty}
-use Rattle.sessions.specs.Replying.{Replies, Took, Told as SaidSo, Untouched}
+use Rattle.sessions.specs.Observed.{Step, calls, taken as is_taken, taken_by, values_at, values_in, each_once, names_of, names_of_all, stock, first_of, next_duty}
+use Rattle.sessions.specs.Replying.{Replies, reply_of, Took, Told as SaidSo, Untouched}
 use Rattle.sessions.specs.Requests.{handle_of, handles_of, event_of}
-use Rattle.sessions.specs.RunLaw.{Refused, RightCounts, Decided}
+use Rattle.sessions.specs.RunLaw.{Refused, InTurn, RightCounts, Decided}
 use Rattle.sessions.proofs.Naming.{given_once, makes_are}
 use Rattle.sessions.proofs.Places.{Place, place, drop_more, turn_for, turn_same}
 use Rattle.sessions.proofs.Replying.{Tells, took_tells, told_tells}
-use Rattle.sessions.proofs.Telling.{Told}
+use Rattle.sessions.proofs.Saying.{say_valued}
 use Rattle.sessions.proofs.Observing.{At, event, replied, begins_first, drop_lines, no_duty}
 
 -- nothing is next where there is nothing
@@ -110,23 +114,32 @@ module _ (X : Specification) where
     pub all_names : all_makes (stages X r) ≡ names_of_all X (duties X r)
     all_names = names_from (stages X r) [] refl
 
-    pub counts_fit : r < X.roles → (vs : List Tree) (ns : List ℕ) → length vs ≡ length (each_once [] (X.knows r)) → length ns ≡ length (names_of_all X (duties X r))
-        → T (counts_right (stages X r) (map some vs) ns)
-    counts_fit l vs ns p q =
-        and_both (eqb (length (map some vs)) (sessions.gives (first_actions (stages X r)))) (eqb (length ns) (sessions.news (all_actions (stages X r))))
-        (is (length (map some vs)) (sessions.gives (first_actions (stages X r))) (length-map vs some ∙ p ∙ ap length (sym (given_once (X.party r) (X.knows r))) ∙ sym gives_all))
-        (is (length ns) (sessions.news (all_actions (stages X r)))
-        (q ∙ ap length (sym all_names) ∙ sym (stages_news (X.party r) (message X) (duties X r) nobody_yet empty good_nobody (all_fitting X acc r))))
-      where
-        is : (m n : ℕ) → m ≡ n → T (eqb m n)
-        is m n e = subst⁻¹ T (eq-eqb m n e) tt
+    module _ (l : r < X.roles) where
+      gives_all : sessions.gives (first_actions (stages X r)) ≡ length (each_once [] (X.knows r))
+      gives_all = go (ltb r X.roles) (lt-ltb r X.roles l) ∙ ap length (given_once (X.party r) (X.knows r))
+        where
+          go : (b : Bool) → b ≡ true → sessions.gives (first_actions (stages_from (message X) (X.party r) nobody_yet (cond b (to_do (X.knows r) ∷ own X r) []))) ≡ length (given (X.party r) (X.knows r))
+          go true e = start_gives (X.party r) (X.knows r) (acc.formed_starts r l)
+          go false e = absurd (cc)
 
-        gives_all : sessions.gives (first_actions (stages X r)) ≡ length (given (X.party r) (X.knows r))
-        gives_all = go (ltb r X.roles) (lt-ltb r X.roles l)
-          where
-            go : (b : Bool) → b ≡ true → sessions.gives (first_actions (stages_from (message X) (X.party r) nobody_yet (cond b (to_do (X.knows r) ∷ own X r) []))) ≡ length (given (X.party r) (X.knows r))
-            go true e = start_gives (X.party r) (X.knows r) (acc.formed_starts r l)
-            go false e = absurd (cc)
+      news_all : sessions.news (all_actions (stages X r)) ≡ length (names_of_all X (duties X r))
+      news_all = stages_news (X.party r) (message X) (duties X r) nobody_yet empty good_nobody (all_fitting X acc r) ∙ ap length all_names
+
+      is : (m n : ℕ) → m ≡ n → T (eqb m n)
+      is m n e = subst⁻¹ T (eq-eqb m n e) tt
+
+      pub counts_fit : (hs : List (Option Tree)) (ns : List ℕ) → RightCounts X r hs ns → T (counts_right (stages X r) hs ns)
+      counts_fit hs ns c =
+          and_both (eqb (length hs) (sessions.gives (first_actions (stages X r)))) (eqb (length ns) (sessions.news (all_actions (stages X r))))
+          (is (length hs) (sessions.gives (first_actions (stages X r))) (c.0 ∙ sym gives_all)) (is (length ns) (sessions.news (all_actions (stages X r))) (c.1 ∙ sym news_all))
+
+      pub fit_counts : (hs : List (Option Tree)) (ns : List ℕ) → T (counts_right (stages X r) hs ns) → RightCounts X r hs ns
+      fit_counts hs ns t = (
+        eqb→eq (length hs) (sessions.gives (first_actions (stages X r)))
+            (and_left (eqb (length hs) (sessions.gives (first_actions (stages X r)))) (eqb (length ns) (sessions.news (all_actions (stages X r)))) t) ∙ gives_all,
+        eqb→eq (length ns) (sessions.news (all_actions (stages X r)))
+            (and_right (eqb (length hs) (sessions.gives (first_actions (stages X r)))) (eqb (length ns) (sessions.news (all_actions (stages X r)))) t) ∙ news_all,
+      )
 
 module _ {S : Type 0} (means : S → Meaning) (space : S → ℕ) (cost : Tree → ℕ) (X : Specification) (acc : Accepted X) where
   module _ (H : List (Step S)) (s : S) (runs : List Run) (st : State) (a : At means space cost X acc H s runs st) where
@@ -228,8 +241,80 @@ module _ {S : Type 0} (means : S → Meaning) (space : S → ℕ) (cost : Tree �
           → values_in means e ≡ map some vs → (ev ≡ begin r (map some vs) (vec_items numbers)) × Tells answered e.reply
       begin_at r hs numbers vs k q m = let z = begin_is r hs numbers k (duty_role r (to_do (X.knows r)) q) in (z.0 ∙ ap (λ o. begin r o (vec_items numbers)) m, z.1)
 
-      fits : (r : ℕ) (vs : List Tree) (ns : List ℕ) → next_duty X r H ≡ some (to_do (X.knows r)) → RightCounts X r vs ns → T (counts_right (st.views r).ahead (map some vs) ns)
-      fits r vs ns q c = subst⁻¹ (λ l. T (counts_right l (map some vs) ns)) (ahead_begin r q) (counts_fit X acc r (duty_role r (to_do (X.knows r)) q) vs ns c.0 c.1)
+      fits : (r : ℕ) (hs : List (Option Tree)) (ns : List ℕ) → next_duty X r H ≡ some (to_do (X.knows r)) → RightCounts X r hs ns → T (counts_right (st.views r).ahead hs ns)
+      fits r hs ns q c = subst⁻¹ (λ l. T (counts_right l hs ns)) (ahead_begin r q) (counts_fit X acc r (duty_role r (to_do (X.knows r)) q) hs ns c)
+
+      fitting : (r : ℕ) (hs : List (Option Tree)) (ns : List ℕ) → next_duty X r H ≡ some (to_do (X.knows r)) → T (counts_right (st.views r).ahead hs ns) → RightCounts X r hs ns
+      fitting r hs ns q t = fit_counts X acc r (duty_role r (to_do (X.knows r)) q) hs ns (subst (λ l. T (counts_right l hs ns)) (ahead_begin r q) t)
+
+      fits_at : (r : ℕ) (hs : List (Option Tree)) (ns : List ℕ) → next_duty X r H ≡ some (to_do (X.knows r)) → values_in means e ≡ hs → RightCounts X r (values_in means e) ns
+          → T (counts_right (st.views r).ahead hs ns)
+      fits_at r hs ns q m c = fits r hs ns q (subst (λ l. RightCounts X r l ns) m c)
+
+      refusals : Refusals cost st ev
+      refusals = refusal_law cost st ev
+
+      say_of_turn : (r l : ℕ) → next_turn st r ≡ some (says_line l) → (mk : ℕ → Bool) × (next_duty X r H ≡ some (speak l mk))
+      say_of_turn r l e = let z = duty_of_turn r (says_line l) e in go z.0 z.1 z.2
+        where
+          line_same : {k l : ℕ} → says_line k ≡ says_line l → k ≡ l
+          line_same e = cc
+
+          go : (d : Duty) → next_duty X r H ≡ some d → turn_of d ≡ says_line l → (mk : ℕ → Bool) × (next_duty X r H ≡ some (speak l mk))
+          go (to_do ts) q i = absurd (cc)
+          go (speak k mk) q i = (mk, q ∙ ap (λ n. some (speak n mk)) (line_same i))
+          go (listen k) q i = absurd (cc)
+
+      -- out of turn
+      iff_not : {A B C D : Type 0} → (A ↔ C) → (A ↔ (¬ B)) → (B → D) → (D → B) → C ↔ (¬ D)
+      iff_not i j f g = ((λ c d. (j.0 (i.1 c)) (g d)), λ n. i.0 (j.1 (λ b. n (f b))))
+
+      late : (q : Request) → e.asked ≡ q → (r : ℕ) → T (calls r q) → r < X.roles → Refused 11 e.reply ↔ (¬ InTurn means space cost X H q)
+      late (Begin p hs ns) k r t l =
+          let i : r ≡ p = eqb→eq r p t in
+          let z = begin_is p hs ns k (subst (λ n. n < X.roles) i l) in
+          iff_not (z.1.refuses 11) refusals.eleven (λ b. begin_of_turn p (subst (InTurn_of st) z.0 b)) (λ q. subst⁻¹ (InTurn_of st) z.0 (turn_of_duty p (to_do (X.knows p)) q))
+      late (Say p) k r t l =
+          let i : r ≡ p = eqb→eq r p t in
+          let z = say_is p k (subst (λ n. n < X.roles) i l) in
+          iff_not (z.1.refuses 11) refusals.eleven
+          (λ b. let x : InTurn_of st (say p) = subst (InTurn_of st) z.0 b in let y = say_of_turn p x.0 x.1 in (x.0, y.0, y.1))
+          (λ q. subst⁻¹ (InTurn_of st) z.0 (q.0, turn_of_duty p (speak q.0 q.1) q.2))
+      late (Hear p h) k r t l =
+          let i : r ≡ p = eqb→eq r p t in
+          let z = hear_is p h k (subst (λ n. n < X.roles) i l) in
+          iff_not (z.1.refuses 11) refusals.eleven
+          (λ b. let x : InTurn_of st (hear p (as_option (means e.before (handle_of e.earlier h)))) = subst (InTurn_of st) z.0 b in (x.0, hear_of_turn p x.0 x.1))
+          (λ q. subst⁻¹ (InTurn_of st) z.0 (q.0, turn_of_duty p (listen q.0) q.1))
+      late (Register p n) k r t l = elim t [ ]
+      late (Atom n) k r t l = elim t [ ]
+      late (Tuple parts) k r t l = elim t [ ]
+      late (Crypt text key) k r t l = elim t [ ]
+      late (Apply f parts) k r t l = elim t [ ]
+      late (Shape h) k r t l = elim t [ ]
+      late (Part h i) k r t l = elim t [ ]
+      late (Unlock h i) k r t l = elim t [ ]
+      late (Same h i) k r t l = elim t [ ]
+      late Space k r t l = elim t [ ]
+
+      -- a say answers a handle
+      say_answer : (m : Meaning) (r : ℕ) → ev ≡ say r → (x : Result ℕ RunFault) → answered ≡ said m x → e.reply ≡ reply_of replies.Handle x → T (is_taken e.reply)
+          → (h : ℕ) × (v : Tree) × (e.reply ≡ replies.Handle h) × (m h ≡ Some v)
+      say_answer m r q (Ok h) i y t =
+          let z = say_valued cost st r a.shaped (as_option (m h)) (ap (λ w. (call cost st w).1) (sym q) ∙ i) in
+          (h, z.0, y, of_some (m h) z.0 z.1)
+        where
+          of_some : (o : std.Option Tree) (v : Tree) → as_option o ≡ some v → o ≡ Some v
+          of_some None v e = absurd (cc)
+          of_some (Some w) v e = ap Some (some_inj e)
+      say_answer m r q (Err f) i y t = elim (subst (λ w. T (is_taken w)) y t) [ ]
+
+      say_there : (r : ℕ) → e.asked ≡ Say r → T (is_taken e.reply) → r < X.roles
+      say_there r k t = go (ltb r X.roles) refl (answers (Say r) k)
+        where
+          go : (b : Bool) → ltb r X.roles ≡ b → cond b (SaidSo (means e.after) answered e.reply × Untouched e.before e.after e.reply) ((e.after ≡ e.before) × (e.reply ≡ replies.NoRole)) → r < X.roles
+          go true i y = ltb-true r X.roles i
+          go false i y = elim (subst (λ w. T (is_taken w)) y.1 t) [ ]
 
       pub decided : Decided means space cost X H e
       decided = record {
@@ -238,7 +323,7 @@ module _ {S : Type 0} (means : S → Meaning) (space : S → ℕ) (cost : Tree �
             let b : ¬ model.Refused 15 (call cost st (hear r (some v))).1 = λ x. f ((z.1.refuses 15).0 (subst⁻¹ (λ w. model.Refused 15 (call cost st w).1) z.0 x)) in
             let o = old.hear_taken r l v (turn_of_duty r (listen l) q) b in
             let i : model.Taken answered ↔ Readable (X.party r) (add (st.views r).holdings (message X l ∷ []) (v ∷ []) [] []) =
-                subst⁻¹ (λ w. model.Taken (call cost st w).1 ↔ Readable (X.party r) (add (st.views r).holdings (message X l ∷ []) (v ∷ []) [] [])) z.0 o in
+            subst⁻¹ (λ w. model.Taken (call cost st w).1 ↔ Readable (X.party r) (add (st.views r).holdings (message X l ∷ []) (v ∷ []) [] [])) z.0 o in
             let j = subst (λ w. model.Taken answered ↔ Readable (X.party r) (add w (message X l ∷ []) (v ∷ []) [] [])) (stock_same r) i in
             ((λ t. j.0 (z.1.takes.1 t)), λ t. z.1.takes.0 (j.1 t));
         hear_refused = λ r l h v k q m f.
@@ -248,18 +333,40 @@ module _ {S : Type 0} (means : S → Meaning) (space : S → ℕ) (cost : Tree �
         begin_taken = λ r hs numbers vs k q m c f.
             let z = begin_at r hs numbers vs k q m in
             let b : ¬ model.Refused 15 (call cost st (begin r (map some vs) (vec_items numbers))).1 = λ x. f ((z.1.refuses 15).0 (subst⁻¹ (λ w. model.Refused 15 (call cost st w).1) z.0 x)) in
-            let o = old.begin_taken r vs (vec_items numbers) (turn_of_duty r (to_do (X.knows r)) q) (fits r vs (vec_items numbers) q c) b in
+            let o = old.begin_taken r vs (vec_items numbers) (turn_of_duty r (to_do (X.knows r)) q) (fits_at r (map some vs) (vec_items numbers) q m c) b in
             let i : model.Taken answered ↔ Readable (X.party r) (add nothing_held (given (X.party r) (X.knows r)) vs [] []) =
-                subst⁻¹ (λ w. model.Taken (call cost st w).1 ↔ Readable (X.party r) (add nothing_held (given (X.party r) (X.knows r)) vs [] [])) z.0 o in
+            subst⁻¹ (λ w. model.Taken (call cost st w).1 ↔ Readable (X.party r) (add nothing_held (given (X.party r) (X.knows r)) vs [] [])) z.0 o in
             let j = subst (λ w. model.Taken answered ↔ Readable (X.party r) (add nothing_held w vs [] [])) (given_once (X.party r) (X.knows r)) i in
             ((λ t. j.0 (z.1.takes.1 t)), λ t. z.1.takes.0 (j.1 t));
         begin_refused = λ r hs numbers vs k q m c f.
             let z = begin_at r hs numbers vs k q m in
             either 14 15 z.1 (subst⁻¹ (λ w. model.Refused 14 (call cost st w).1 ⊎ model.Refused 15 (call cost st w).1) z.0
-            (old.begin_refused r vs (vec_items numbers) (turn_of_duty r (to_do (X.knows r)) q) (fits r vs (vec_items numbers) q c)
+            (old.begin_refused r vs (vec_items numbers) (turn_of_duty r (to_do (X.knows r)) q) (fits_at r (map some vs) (vec_items numbers) q m c)
             (λ t. f (z.1.takes.0 (subst⁻¹ (λ w. model.Taken (call cost st w).1) z.0 t)))));
         say_refused = λ r l mk k q f.
             let z = say_is r k (duty_role r (speak l mk) q) in
             (z.1.refuses 15).0 (subst⁻¹ (λ w. model.Refused 15 (call cost st w).1) z.0
             (old.say_refused r l (turn_of_duty r (speak l mk) q) (λ t. f (z.1.takes.0 (subst⁻¹ (λ w. model.Taken (call cost st w).1) z.0 t)))));
+        say_answers = λ r k t.
+            let l = say_there r k t in
+            let z = say_is r k l in
+            let y = there (ltb r X.roles) (lt-ltb r X.roles l) (SaidSo (means e.after) answered e.reply) (answers (Say r) k) in
+            say_answer (means e.after) r z.0 y.0 y.1 y.2 t;
+        out_of_turn = λ r t l. late e.asked refl r t l;
+        wrong_counts = λ r hs numbers k q.
+            let z = begin_is r hs numbers k (duty_role r (to_do (X.knows r)) q) in (
+              (λ x c.
+                  let w : WrongCounts st (begin r (values_in means e) (vec_items numbers)) = subst (WrongCounts st) z.0 (refusals.thirteen.0 ((z.1.refuses 13).1 x)) in
+                  w.1 (fits r (values_in means e) (vec_items numbers) q c)),
+              λ n. (z.1.refuses 13).0 (refusals.thirteen.1 (subst⁻¹ (WrongCounts st) z.0
+                  (turn_of_duty r (to_do (X.knows r)) q, λ t. n (fitting r (values_in means e) (vec_items numbers) q t)))),
+            );
+        hear_invalid = λ r l h k q m.
+            let z = hear_is r h k (duty_role r (listen l) q) in
+            let i : (call cost st (hear r nothing)).1 ≡ declined 12 (st.views r).done = old.hear_invalid r l (turn_of_duty r (listen l) q) in
+            (z.1.refuses 12).0 (subst⁻¹ (model.Refused 12) (ap (λ w. (call cost st w).1) (z.0 ∙ ap (λ o. hear r (as_option o)) m) ∙ i) refl);
+        begin_invalid = λ r hs numbers vs rest k q m c.
+            let z = begin_is r hs numbers k (duty_role r (to_do (X.knows r)) q) in
+            let i = old.begin_invalid r vs rest (vec_items numbers) (turn_of_duty r (to_do (X.knows r)) q) (fits_at r (map some vs ++ (nothing ∷ rest)) (vec_items numbers) q m c) in
+            (z.1.refuses 12).0 (subst⁻¹ (model.Refused 12) (ap (λ w. (call cost st w).1) (z.0 ∙ ap (λ o. begin r o (vec_items numbers)) m) ∙ i) refl);
       }

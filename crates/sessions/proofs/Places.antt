@@ -110,7 +110,7 @@ module _ (X : Specification) (P : Party) where
     where
       go : (o : Option Role) → next_role (message X) P d s ≡ o → elim o as (λ x. Type 0) [ some s' ↦ Fitting (message X) P s' ds | nothing ↦ ⊥ ]
           → ((s' : Role) → Fitting (message X) P s' ds → (st : Stage) (rest : List Stage)
-              → drop (length cs) (stages_from (message X) P s' ds) ≡ st ∷ rest → Place s' ds (length cs) st)
+          → drop (length cs) (stages_from (message X) P s' ds) ≡ st ∷ rest → Place s' ds (length cs) st)
           → drop (length (c ∷ cs)) (elim o as (λ x. List Stage) [ some s' ↦ stage (message X) P d s s' ∷ stages_from (message X) P s' ds | nothing ↦ [] ]) ≡ st ∷ rest
           → Place s (d ∷ ds) (length (c ∷ cs)) st
       go nothing q g k i = elim g [ ]

@@ -279,7 +279,7 @@ module _ {S : Type 0} (means : S → Meaning) (space : S → ℕ) (cost : Tree �
   suffices_to R (e ∷ es) H s runs st s' runs' a h w =
       suffices_first H s runs st a e h.0 R ev' (events es)
       (subst⁻¹ (λ b. cond b ((model.costs X cost R X.roles ≤ st.space) × model.Along cost (model.Unbuilt cost) (call cost st (event means space cost X acc e)).0 (events es))
-          (model.Suffices X cost R (call cost st (event means space cost X acc e)).0 (events es))) (starts_kind H s runs st a e h.0 e.asked)
+      (model.Suffices X cost R (call cost st (event means space cost X acc e)).0 (events es))) (starts_kind H s runs st a e h.0 e.asked)
       (go (to_start means space cost X H e.asked) w
       (λ u. suffices_to R es (H ++ (e ∷ [])) e.after e.runs (call cost st (event means space cost X acc e)).0 s' runs' (at_next means space cost X acc H s runs st a e h.0) h.1 u)))
     where
@@ -318,10 +318,11 @@ module _ {S : Type 0} (means : S → Meaning) (space : S → ℕ) (cost : Tree �
             arrive = along_to (AsSaid means space cost X) model.AsSaid (λ H s runs st a e d w. arrive_to H s runs st a e d w) H [] first new (sessions.new_runs X (space first)) s runs begun h f.arrive;
             suffice = suffices_to (reading_of ρ) H [] first new (sessions.new_runs X (space first)) s runs begun h f.suffice;
           } in
-          let z = (session_law X acc cost (space first) (events H)).chosen ρ fair in
-          (along_from (NotRefused means space cost X) (model.NotRefused cost) (λ H s runs st a e d w. not_refused_from H s runs st a e d w) H [] first new (sessions.new_runs X (space first)) s runs begun h z.0,
-          all_read small H s runs st end (reading_of ρ) z.1,
-          all_share small H s runs st end z.2);
+          let z = (session_law X acc cost (space first) (events H)).chosen ρ fair in (
+            along_from (NotRefused means space cost X) (model.NotRefused cost) (λ H s runs st a e d w. not_refused_from H s runs st a e d w) H [] first new (sessions.new_runs X (space first)) s runs begun h z.0,
+            all_read small H s runs st end (reading_of ρ) z.1,
+            all_share small H s runs st end z.2,
+          );
     }
       where
         st : State

@@ -107,7 +107,6 @@ numbers_in (Unlock h k) = []
 numbers_in (Same h k) = []
 numbers_in Space = []
 
-
 -- the values behind the handles that came with a call
 abbrev pub values_at : Meaning → List Reply → Request → List (Option Tree)
 values_at m rs (Begin r given numbers) = values_of m (handles_of rs (vec_items given))
@@ -124,11 +123,9 @@ values_at m rs (Unlock h k) = []
 values_at m rs (Same h k) = []
 values_at m rs Space = []
 
-
 abbrev pub first_of : List Duty → Option Duty
 first_of [] = nothing
 first_of (d ∷ ds) = some d
-
 
 abbrev pub line_said : ℕ → Option Tree → List (ℕ × Tree)
 line_said l nothing = []

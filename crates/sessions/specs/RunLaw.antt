@@ -1,5 +1,5 @@
 -- The law of runs, over what was seen of them: requests, replies, what handles name, the space, and the runs' registers.
-use Rattle.std.specs.Prelude.{◌≡◌, ◌≢◌, ℕ, ◌<◌, ◌≤◌, Bool, true, false, cond, ◌&&◌, T, ◌⊎◌, ◌↔◌, List, [], ◌∷◌, ◌++◌, map, length, take, Some, slice_index_or, ◌==◌, nat_lt, vec_items, Vec}
+use Rattle.std.specs.Prelude.{◌≡◌, ◌≢◌, ℕ, ◌<◌, ◌≤◌, Bool, true, false, cond, ◌&&◌, T, ◌⊎◌, ◌↔◌, List, [], ◌∷◌, ◌++◌, map, length, take, Some, None, slice_index_or, ◌==◌, nat_lt, vec_items, Vec}
 use Rattle.std.specs.declared.alloc.Global.{Global}
 use Rattle.std.proofs.Math.Option.{Option, none as nothing, some}
 use Rattle.model.specs.Lists.{Every, SomeOf}
@@ -21,7 +21,7 @@ use Rattle.sessions.specs.declared.request.Handle.{Handle}
 use Rattle.sessions.specs.declared.request.Request.{Request}
 use Rattle.sessions.specs.declared.request.Request.TheVariants.{Begin, Say, Hear, Register, Atom, Tuple, Crypt, Apply, Shape, Part, Unlock, Same, Space}
 use Rattle.sessions.specs.Requests.{handle_of}
-use Rattle.sessions.specs.Observed.{Step, taken, taken_by, values_in, each_once, names_of_all, stock, lines_said, next_duty}
+use Rattle.sessions.specs.Observed.{Step, calls, taken, taken_by, values_in, each_once, names_of_all, stock, lines_said, next_duty}
 
 -- a call is refused with this number
 abbrev pub Refused : ℕ → Reply → Type 0
@@ -62,8 +62,8 @@ module _ (X : Specification) where
   known_after r n = (role_after (X.party r) nobody_yet (take n (duties X r))).known
 
   -- a begin has a value for each term that the role starts from, and a number for each name that it makes
-  abbrev pub RightCounts : ℕ → List Tree → List ℕ → Type 0
-  RightCounts r ts ns = (length ts ≡ length (each_once [] (X.knows r))) × (length ns ≡ length (names_of_all X (duties X r)))
+  abbrev pub RightCounts : ℕ → List (Option Tree) → List ℕ → Type 0
+  RightCounts r hs ns = (length hs ≡ length (each_once [] (X.knows r))) × (length ns ≡ length (names_of_all X (duties X r)))
 
 module _ {S : Type 0} (means : S → Meaning) (space : S → ℕ) (cost : Tree → ℕ) (X : Specification) where
   -- something holds of each step, after those before it
@@ -102,12 +102,22 @@ module _ {S : Type 0} (means : S → Meaning) (space : S → ℕ) (cost : Tree �
     pub hear_refused : (r l : ℕ) (h : Handle) (v : Tree) → e.asked ≡ Hear r h → next_duty X r H ≡ some (listen l)
         → means e.before (handle_of e.earlier h) ≡ Some v → ¬ T (taken e.reply) → Refused 14 e.reply ⊎ Refused 15 e.reply
     pub begin_taken : (r : ℕ) (given : Vec Handle Global) (numbers : Vec ℕ Global) (vs : List Tree) → e.asked ≡ Begin r given numbers
-        → next_duty X r H ≡ some (begin (X.knows r)) → values_in means e ≡ map some vs → RightCounts X r vs (vec_items numbers) → ¬ Refused 15 e.reply
+        → next_duty X r H ≡ some (begin (X.knows r)) → values_in means e ≡ map some vs → RightCounts X r (values_in means e) (vec_items numbers) → ¬ Refused 15 e.reply
         → T (taken e.reply) ↔ Readable (X.party r) (add nothing_held (each_once [] (X.knows r)) vs [] [])
     pub begin_refused : (r : ℕ) (given : Vec Handle Global) (numbers : Vec ℕ Global) (vs : List Tree) → e.asked ≡ Begin r given numbers
-        → next_duty X r H ≡ some (begin (X.knows r)) → values_in means e ≡ map some vs → RightCounts X r vs (vec_items numbers) → ¬ T (taken e.reply)
+        → next_duty X r H ≡ some (begin (X.knows r)) → values_in means e ≡ map some vs → RightCounts X r (values_in means e) (vec_items numbers) → ¬ T (taken e.reply)
         → Refused 14 e.reply ⊎ Refused 15 e.reply
     pub say_refused : (r l : ℕ) (mk : ℕ → Bool) → e.asked ≡ Say r → next_duty X r H ≡ some (speak l mk) → ¬ T (taken e.reply) → Refused 15 e.reply
+    -- a say that is taken answers a valid handle
+    pub say_answers : (r : ℕ) → e.asked ≡ Say r → T (taken e.reply) → (h : ℕ) × (v : Tree) × (e.reply ≡ replies.Handle h) × (means e.after h ≡ Some v)
+    -- refused for other reasons: a call of a role that is out of turn, a begin with wrong counts, a handle that is not valid
+    pub out_of_turn : (r : ℕ) → T (calls r e.asked) → r < X.roles → Refused 11 e.reply ↔ (¬ InTurn H e.asked)
+    pub wrong_counts : (r : ℕ) (given : Vec Handle Global) (numbers : Vec ℕ Global) → e.asked ≡ Begin r given numbers → next_duty X r H ≡ some (begin (X.knows r))
+        → Refused 13 e.reply ↔ (¬ RightCounts X r (values_in means e) (vec_items numbers))
+    pub hear_invalid : (r l : ℕ) (h : Handle) → e.asked ≡ Hear r h → next_duty X r H ≡ some (listen l) → means e.before (handle_of e.earlier h) ≡ None → Refused 12 e.reply
+    pub begin_invalid : (r : ℕ) (given : Vec Handle Global) (numbers : Vec ℕ Global) (vs : List Tree) (hs : List (Option Tree)) → e.asked ≡ Begin r given numbers
+        → next_duty X r H ≡ some (begin (X.knows r)) → values_in means e ≡ map some vs ++ (nothing ∷ hs) → RightCounts X r (values_in means e) (vec_items numbers)
+        → Refused 12 e.reply
 
   -- a begin in turn has the readings of the start's terms as givens, and the numbers of the atoms chosen for the names that the role makes
   abbrev pub StartsFrom : (ℕ → Tree) → List (Step S) → Step S → Type 0
