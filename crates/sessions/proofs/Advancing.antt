@@ -1,15 +1,11 @@
 -- What one call of the model does to a role: it takes its next stage, or stays.
-use Rattle.std.proofs.Common.{◌≡◌, ℕ, Bool, true, false, cond, T, ◌⊎◌, List, [], ◌∷◌, length, sym, refl, inl, inr}
+use Rattle.std.proofs.Common.{◌≡◌, ℕ, Bool, true, false, cond, T, ◌⊎◌, List, [], ◌∷◌, sym, refl, inl, inr}
 use mathlib.Core.Option.{Option, none as nothing, some}
 use Rattle.model.specs.Trees.{Tree}
 use Rattle.model.specs.Runs.{Machine, ran, Outcome, ended, stopped, attempt, answer}
-use Rattle.model.specs.Specifications.{Specification}
-use Rattle.model.specs.Programs.{Turn, Stage, all_makes}
-use Rattle.model.specs.Sessions.{State, Event, begin, say, hear, Answer, taken, declined, number_of, only, to_begin, to_say, to_hear, in_turn, valid, went_on, put, concluded, machine_for, tried, counts_right, handled, call}
+use Rattle.model.specs.Programs.{Turn, Stage}
+use Rattle.model.specs.Sessions.{State, begin, say, hear, Answer, taken, declined, number_of, only, to_begin, to_say, to_hear, in_turn, valid, went_on, put, concluded, machine_for, tried, counts_right, handled, call}
 use Rattle.model.proofs.Exec.{exec, result_of, attempt_exec}
-use Rattle.model.proofs.Attends.{AllAttend}
-use Rattle.model.proofs.Attending.{has_numbers, brings_numbers}
-use Rattle.model.proofs.Coming.{not_say, not_hear}
 
 module _ (c : Tree → ℕ) (s : State) (r : ℕ) where
   -- a stage of a role was taken

@@ -1,7 +1,5 @@
 -- New runs of a translation's roles are new runs of its specification.
-use Rattle.std.proofs.Common.{◌≡◌, ℕ, ◌<◌, ◌≤◌, true, cond, List, [], ◌∷◌, length, map, get_or, take, vec_items, Vec, Ok, sym, refl, ap, ap₂, ◌∙◌, subst, arith, Err}
-use Rattle.std.specs.declared.alloc.AllocError.{AllocError}
-use Rattle.std.specs.declared.alloc.Global.{Global}
+use Rattle.std.proofs.Common.{◌≡◌, ℕ, ◌<◌, ◌≤◌, true, cond, List, [], ◌∷◌, length, map, get_or, take, vec_items, sym, refl, ap, ap₂, ◌∙◌, subst, arith}
 use Rattle.std.proofs.lemmas.Bool.{lt-ltb}
 use Rattle.std.proofs.lemmas.List.{length-map}
 use Rattle.std.proofs.Math.ListN.{get_or-map}
@@ -10,8 +8,7 @@ use Rattle.model.specs.Lists.{Every}
 use Rattle.model.specs.Trees.{Tree}
 use Rattle.model.specs.Specifications.{Specification}
 use Rattle.model.specs.Programs.{program}
-use Rattle.model.specs.Sessions.{Event, new_runs}
-use Rattle.model.proofs.SessionLaw.{session_law}
+use Rattle.model.specs.Sessions.{new_runs}
 use Rattle.program.specs.Held.{passes}
 use Rattle.terms.specs.declared.declarations.Function.{Function}
 use Rattle.terms.specs.declared.limits.Limits.{Limits}

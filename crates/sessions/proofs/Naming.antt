@@ -1,13 +1,13 @@
 -- What a role is given and which names it makes, told by the specification alone.
-use Rattle.std.proofs.Common.{◌≡◌, ℕ, suc, ◌<◌, Bool, true, false, cond, not, ◌&&◌, ◌||◌, T, eqb, ltb, ◌⊎◌, List, [], ◌∷◌, ◌++◌, length, take, drop, sym, refl, ap, ◌∙◌, subst, inl, inr, arith, append-nil, append_assoc, eq-eqb, eqb→eq, ltb→lt}
+use Rattle.std.proofs.Common.{◌≡◌, ℕ, ◌<◌, Bool, true, false, cond, not, ◌&&◌, ◌||◌, T, eqb, ltb, ◌⊎◌, List, [], ◌∷◌, ◌++◌, length, take, drop, sym, refl, ap, ◌∙◌, subst, inl, inr, arith, append-nil, append_assoc, eq-eqb, eqb→eq, ltb→lt}
 use mathlib.Core.Option.{Option, none as nothing, some}
 use mathlib.Core.Path.{subst⁻¹}
-use Rattle.model.specs.Lists.{Every, rest_of}
+use Rattle.model.specs.Lists.{Every}
 use Rattle.model.specs.Trees.{Head, Tree, leaf, node, Trees, none, more, eq_tree, ◌among◌, Within, itself, inside}
 use Rattle.model.specs.Deduction.{Party, may}
-use Rattle.model.specs.Roles.{Entry, Role, give, new, find, fill, enter, Composed, got, lacks, ComposedAll, got_all, lacks_one, and_then, put_together, compose, compose_all, knows, give_all, Said, spoke, failed, say_composed, said}
-use Rattle.model.specs.Entries.{Has, Held}
-use Rattle.model.specs.Lives.{Life, starts, says, Passed, New, Disciplined, spoken, run}
+use Rattle.model.specs.Roles.{Entry, Role, give, new, find, fill, enter, Composed, got, lacks, ComposedAll, got_all, lacks_one, and_then, put_together, compose, compose_all, knows, give_all, say_composed, said}
+use Rattle.model.specs.Entries.{Has}
+use Rattle.model.specs.Lives.{says, Disciplined, spoken, run}
 use Rattle.model.specs.Specifications.{Specification, message, Duty, begin, speak, listen, own, duties, life_on, life_to}
 use Rattle.model.specs.Programs.{nobody_yet, next_role, terms, leaf_of, leaves, given, takes, names, new_names, Accepted, Stage}
 use Rattle.model.proofs.Trees.{within_trans}
@@ -17,7 +17,7 @@ use Rattle.model.proofs.Adding.{names_are}
 use Rattle.model.proofs.Duties.{IsLine, own_lines, disciplined_before}
 use Rattle.model.proofs.ComposingLaw.{disciplined_to}
 use Rattle.model.proofs.Lives.{lived}
-use Rattle.model.proofs.Lived.{Seen, Lived}
+use Rattle.model.proofs.Lived.{Seen}
 use Rattle.sessions.specs.Observed.{is_one_of, each_once, has_number, names_on, names_on_all, terms_of, names_of}
 use Rattle.sessions.proofs.Places.{Place}
 

@@ -5,12 +5,9 @@ use Rattle.std.proofs.Common as std
 use Rattle.std.proofs.lemmas.Bool.{lt-ltb, ltb-true}
 use mathlib.Core.Option.{Option, none as nothing, some}
 use mathlib.Core.Path.{subst⁻¹}
-use Rattle.model.specs.Lists.{Every, SomeOf}
-use Rattle.model.specs.Trees.{Tree, leaf, Formed}
-use Rattle.model.specs.Deduction.{Party, Derives}
-use Rattle.model.specs.Roles.{Role}
-use Rattle.model.specs.Runs.{Memory, empty}
-use Rattle.model.specs.Holdings.{Stock, nothing_held, add, ValueOf, Readable}
+use Rattle.model.specs.Trees.{Tree}
+use Rattle.model.specs.Runs.{empty}
+use Rattle.model.specs.Holdings.{nothing_held, add, Readable}
 use Rattle.model.specs.Specifications.{Specification, message, Duty, begin as to_do, speak, listen, own, duties}
 use Rattle.model.specs.Programs.{nobody_yet, given, Turn, begins, says_line, hears_line, turn_of, Stage, stages_from, stages, all_actions, all_makes, Accepted}
 use Rattle.model.specs.Sessions.{State, Event, begin, say, hear, other, Answer, declined, to_begin, turn_now, begins_next, next_turn, first_actions, counts_right, call}
@@ -20,7 +17,7 @@ use Rattle.model.specs.RefusalLaw.{InTurn as InTurn_of, WrongCounts, Refusals}
 use Rattle.model.proofs.RefusalLaw.{refusal_law}
 use Rattle.model.proofs.Machine.{some_inj, no_some}
 use Rattle.model.proofs.Tests.{and_both, and_left, and_right}
-use Rattle.model.proofs.Fitting.{Fit, all_fitting, role_or_nothing}
+use Rattle.model.proofs.Fitting.{all_fitting, role_or_nothing}
 use Rattle.model.proofs.Duties.{IsLine, own_lines}
 use Rattle.model.proofs.Counts.{start_gives, stages_news}
 use Rattle.model.proofs.Lines.{good_nobody}
@@ -29,15 +26,14 @@ use Rattle.run.specs.declared.run.Run.{Run}
 use Rattle.run.specs.declared.fault.RunFault.{RunFault}
 use Rattle.run.specs.Called.{said}
 use Rattle.run.specs.Shown.{Meaning, as_option}
-use Rattle.sessions.specs.declared.reply.Reply.{Reply}
 use Rattle.sessions.specs.declared.reply.Reply.TheVariants as replies
 use Rattle.sessions.specs.declared.request.Handle.{Handle}
 use Rattle.sessions.specs.declared.request.Request.{Request}
 use Rattle.sessions.specs.declared.request.Request.TheVariants.{Begin, Say, Hear, Register, Atom, Tuple, Crypt, Apply, Shape, Part, Unlock, Same, Space}
 use Rattle.sessions.specs.Happening.{Did}
-use Rattle.sessions.specs.Observed.{Step, calls, taken as is_taken, taken_by, values_at, values_in, each_once, names_of, names_of_all, stock, first_of, next_duty}
+use Rattle.sessions.specs.Observed.{Step, calls, taken as is_taken, taken_by, values_at, values_in, each_once, names_of_all, stock, first_of, next_duty}
 use Rattle.sessions.specs.Replying.{Replies, reply_of, Took, Told as SaidSo, Untouched}
-use Rattle.sessions.specs.Requests.{handle_of, handles_of, event_of}
+use Rattle.sessions.specs.Requests.{handle_of, event_of}
 use Rattle.sessions.specs.RunLaw.{Refused, InTurn, RightCounts, Decided}
 use Rattle.sessions.proofs.Naming.{given_once, makes_are}
 use Rattle.sessions.proofs.Places.{Place, place, drop_more, turn_for, turn_same}

@@ -1,17 +1,16 @@
 -- What was observed of runs tells how the model's session stands, step by step.
-use Rattle.std.proofs.Common.{◌≡◌, ℕ, suc, ◌<◌, Bool, true, false, cond, ◌&&◌, T, eqb, ltb, leb, ◌-◌, ◌⊎◌, ◌↔◌, List, [], ◌∷◌, ◌++◌, map, length, drop, Ok, Err, Result, sym, refl, ap, ◌∙◌, subst, inl, inr, arith, vec_items, ltb→lt}
+use Rattle.std.proofs.Common.{◌≡◌, ℕ, Bool, true, false, cond, ◌&&◌, T, eqb, ltb, leb, ◌-◌, ◌⊎◌, ◌↔◌, List, [], ◌∷◌, ◌++◌, length, drop, Ok, Err, Result, sym, refl, ap, ◌∙◌, subst, inl, inr, arith, vec_items}
 use mathlib.Core.Option.{Option, none as nothing, some}
 use mathlib.Core.Path.{subst⁻¹}
 use Rattle.model.specs.Lists.{Every}
 use Rattle.model.specs.Trees.{tupled, crypted, applied, Tree, leaf}
-use Rattle.model.specs.Runs.{Memory, answer}
+use Rattle.model.specs.Runs.{answer}
 use Rattle.model.specs.Specifications.{Specification, Duty, begin as to_do, speak, listen, own, duties}
 use Rattle.model.specs.Programs.{nobody_yet, Turn, begins, says_line, hears_line, Stage, turn_of, Accepted}
 use Rattle.model.specs.Sessions as model
 use Rattle.model.specs.Sessions.{State, Event, begin, say, hear, build, other, Answer, taken, declined, outside, only, to_begin, to_say, to_hear, valid, told, call}
 use Rattle.model.specs.SessionLaw.{Taken}
 use Rattle.model.proofs.Machine.{eqb_iff}
-use Rattle.model.proofs.Fitting.{all_fitting}
 use Rattle.model.proofs.Duties.{IsLine, own_lines}
 use Rattle.model.proofs.Attends.{AllAttend, new_attend}
 use Rattle.model.proofs.Attending.{call_attends}
@@ -20,7 +19,7 @@ use Rattle.model.proofs.Answering.{decides}
 use Rattle.store.specs.declared.fault.StoreFault.{StoreFault}
 use Rattle.store.specs.Makers.{wanted}
 use Rattle.run.specs.declared.run.Run.{Run}
-use Rattle.run.specs.Called.{said, did, unsaid}
+use Rattle.run.specs.Called.{said}
 use Rattle.run.specs.Shown.{Meaning, as_option}
 use Rattle.run.specs.declared.fault.RunFault.{RunFault}
 use Rattle.sessions.specs.declared.reply.Reply.{Reply}

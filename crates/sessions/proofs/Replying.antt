@@ -1,6 +1,5 @@
 -- What a reply tells of the model's answer.
-use Rattle.std.proofs.Common.{◌≡◌, ℕ, Bool, true, false, T, ◌↔◌, Ok, Err, Result, sym, ap, refl, ◌∙◌, subst, arith}
-use mathlib.Core.Option.{none as nothing}
+use Rattle.std.proofs.Common.{◌≡◌, ℕ, T, ◌↔◌, Ok, Err, Result, sym, refl, ◌∙◌}
 use mathlib.Core.Path.{subst⁻¹}
 use Rattle.model.specs.Sessions.{Answer, taken, declined, outside}
 use Rattle.model.specs.SessionLaw as model

@@ -1,5 +1,5 @@
 -- The law of runs, from the law of the model's sessions.
-use Rattle.std.proofs.Common.{◌≡◌, ℕ, ◌<◌, ◌≤◌, Bool, true, false, cond, ◌&&◌, T, eqb, ltb, ◌⊎◌, ◌↔◌, List, [], ◌∷◌, ◌++◌, map, length, drop, get_or, Some, None, Ok, Err, Result, Vec, sym, refl, ap, ap₂, ◌∙◌, subst, inl, inr, arith, vec_items, append-nil, append_assoc}
+use Rattle.std.proofs.Common.{◌≡◌, ℕ, ◌<◌, ◌≤◌, Bool, true, false, cond, ◌&&◌, T, eqb, ltb, List, [], ◌∷◌, ◌++◌, map, length, get_or, Some, Ok, Err, Result, Vec, sym, refl, ap, ◌∙◌, subst, arith, vec_items, append-nil, append_assoc}
 use Rattle.std.specs.declared.alloc.Global.{Global}
 use Rattle.std.proofs.lemmas.Bool.{ltb-true}
 use mathlib.Core.Option.{Option, none as nothing, some}
@@ -10,29 +10,28 @@ use Rattle.model.specs.Deduction.{Derives}
 use Rattle.model.specs.Roles.{Entry}
 use Rattle.model.specs.Entries.{Held}
 use Rattle.model.specs.Readings.{reading_of}
-use Rattle.model.specs.Holdings.{Stock, ValueOf}
-use Rattle.model.specs.Specifications.{Specification, Duty, begin as to_do, speak, listen, duties}
-use Rattle.model.specs.Programs.{begins, says_line, hears_line, turn_of, stages, Accepted}
+use Rattle.model.specs.Holdings.{ValueOf}
+use Rattle.model.specs.Specifications.{Specification, begin as to_do, speak, listen}
+use Rattle.model.specs.Programs.{Accepted}
 use Rattle.model.specs.Sessions as sessions
 use Rattle.model.specs.Sessions.{State, Event, begin, say, hear, build, other, call, begins_next, next_turn}
 use Rattle.model.specs.SessionLaw as model
-use Rattle.model.proofs.Lists.{every_some, every_map}
+use Rattle.model.proofs.Lists.{every_some}
 use Rattle.model.proofs.SessionLaw.{session_law}
 use Rattle.store.specs.declared.fault.StoreFault.{StoreFault}
 use Rattle.store.specs.Makers.{wanted, Makes}
 use Rattle.run.specs.declared.run.Run.{Run}
-use Rattle.run.specs.Shown.{Meaning, Small, as_option, register, vacant, StandsFor}
-use Rattle.sessions.specs.declared.reply.Reply.{Reply}
+use Rattle.run.specs.Shown.{Meaning, Small, as_option, register, StandsFor}
 use Rattle.sessions.specs.declared.reply.Reply.TheVariants as replies
 use Rattle.sessions.specs.declared.request.Handle.{Handle}
 use Rattle.sessions.specs.declared.request.Request.{Request}
 use Rattle.sessions.specs.declared.request.Request.TheVariants.{Begin, Say, Hear, Register, Atom, Tuple, Crypt, Apply, Shape, Part, Unlock, Same, Space}
 use Rattle.sessions.specs.Going.{Begins}
 use Rattle.sessions.specs.Happening.{store_after, runs_after, Did, Happened}
-use Rattle.sessions.specs.Observed.{Step, taken as is_taken, taken_by, values_at, values_in, stock, lines_said, next_duty}
+use Rattle.sessions.specs.Observed.{Step, taken as is_taken, taken_by, values_at, values_in, stock}
 use Rattle.sessions.specs.Replying.{Replies, Made, reply_by}
 use Rattle.sessions.specs.Requests.{handle_of, handles_of, of_maker, event_of}
-use Rattle.sessions.specs.RunLaw.{Along, Derived, Decided, StartsFrom, AsSaid, Unbuilt, to_build, to_start, Suffices, Fair, NotRefused, InTurn, AllRead, AllShare, Lawful, known_after}
+use Rattle.sessions.specs.RunLaw.{Along, Derived, Decided, StartsFrom, AsSaid, Unbuilt, to_build, to_start, Suffices, NotRefused, InTurn, AllRead, AllShare, Lawful}
 use Rattle.sessions.proofs.Naming.{given_once}
 use Rattle.sessions.proofs.Observing.{At, event, replied, at_start, at_next}
 use Rattle.sessions.proofs.Obeying.{begins_same, all_names, stock_same, turn_of_duty, begin_of_turn, hear_of_turn, begin_is, say_is, hear_is, decided, is_role}

@@ -1,13 +1,12 @@
 -- What was observed of a role tells how its run stands in the model.
-use Rattle.std.proofs.Common.{◌≡◌, ℕ, ◌+◌, Bool, T, ◌⊎◌, List, [], ◌∷◌, ◌++◌, map, length, take, drop, sym, refl, ap, ap₂, ◌∙◌, subst, inl, inr, arith, append-nil, append_assoc, length-append}
-use mathlib.Core.Option.{Option, none as nothing, some}
+use Rattle.std.proofs.Common.{◌≡◌, ℕ, ◌+◌, Bool, T, ◌⊎◌, List, [], ◌∷◌, ◌++◌, length, take, drop, sym, refl, ap, ap₂, ◌∙◌, inl, inr, arith, append-nil, append_assoc, length-append}
 use mathlib.Core.Path.{subst⁻¹}
 use Rattle.model.specs.Lists.{zip}
 use Rattle.model.specs.Trees.{Tree}
 use Rattle.model.specs.Deduction.{Party}
 use Rattle.model.specs.Runs.{Machine, ran, answer}
 use Rattle.model.specs.Specifications.{Specification, message, Duty, duties}
-use Rattle.model.specs.Programs.{nobody_yet, line, takes, names, Turn, Stage, turn_of, stage, stages, Accepted}
+use Rattle.model.specs.Programs.{nobody_yet, line, names, Turn, Stage, turn_of, stages, Accepted}
 use Rattle.model.specs.Sessions.{View, State, new_view, Answer, rest_of_stages, valid, told, went_on, machine_for}
 use Rattle.model.proofs.Exec.{exec}
 use Rattle.model.proofs.Feeding.{Fed}

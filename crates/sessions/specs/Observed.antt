@@ -1,5 +1,5 @@
 -- What was seen of a session, and what each role was given, heard, said and made by it: told from requests, replies and what handles name.
-use Rattle.std.specs.Prelude.{ℕ, zero, suc, Bool, true, false, cond, not, ◌&&◌, ◌||◌, List, [], ◌∷◌, ◌++◌, map, length, drop, take, ◌==◌, vec_items}
+use Rattle.std.specs.Prelude.{ℕ, Bool, true, false, cond, not, ◌&&◌, ◌||◌, List, [], ◌∷◌, ◌++◌, length, drop, take, ◌==◌, vec_items}
 use Rattle.std.proofs.Math.Option.{Option, none as nothing, some}
 use Rattle.model.specs.Lists.{zip}
 use Rattle.model.specs.Trees.{Tree, leaf, node, Trees, none, more, eq_tree}
