@@ -8,9 +8,9 @@ use Rattle.model.specs.Lists.{Every, SomeOf}
 use Rattle.model.specs.Trees.{tupled, crypted, applied, Tree, leaf}
 use Rattle.model.specs.Deduction.{Derives}
 use Rattle.model.specs.Roles.{Entry}
-use Rattle.model.specs.Entries.{Held}
+use Rattle.model.specs.Entries.{Has, Held}
 use Rattle.model.specs.Readings.{reading_of}
-use Rattle.model.specs.Holdings.{ValueOf}
+use Rattle.model.specs.Holdings.{TermOf, ValueOf}
 use Rattle.model.specs.Specifications.{Specification, begin as to_do, speak, listen}
 use Rattle.model.specs.Programs.{Accepted}
 use Rattle.model.specs.Sessions as sessions
@@ -18,6 +18,8 @@ use Rattle.model.specs.Sessions.{State, Event, begin, say, hear, build, other, c
 use Rattle.model.specs.SessionLaw as model
 use Rattle.model.proofs.Lists.{every_some}
 use Rattle.model.proofs.SessionLaw.{session_law}
+use Rattle.model.proofs.Standing.{term_known}
+use Rattle.model.proofs.Grounds.{held_every}
 use Rattle.store.specs.declared.fault.StoreFault.{StoreFault}
 use Rattle.store.specs.Makers.{wanted, Makes}
 use Rattle.run.specs.declared.run.Run.{Run}
@@ -31,7 +33,7 @@ use Rattle.sessions.specs.Happening.{store_after, runs_after, Did, Happened}
 use Rattle.sessions.specs.Observed.{Step, taken as is_taken, taken_by, values_at, values_in, stock}
 use Rattle.sessions.specs.Replying.{Replies, Made, reply_by}
 use Rattle.sessions.specs.Requests.{handle_of, handles_of, of_maker, event_of}
-use Rattle.sessions.specs.RunLaw.{Along, Derived, Decided, StartsFrom, AsSaid, Unbuilt, to_build, to_start, Suffices, NotRefused, InTurn, AllRead, AllShare, Lawful}
+use Rattle.sessions.specs.RunLaw.{Along, Derived, Holding, Decided, StartsFrom, AsSaid, Unbuilt, to_build, to_start, Suffices, NotRefused, InTurn, AllRead, AllShare, Lawful}
 use Rattle.sessions.proofs.Naming.{given_once}
 use Rattle.sessions.proofs.Observing.{At, event, replied, at_start, at_next}
 use Rattle.sessions.proofs.Obeying.{begins_same, all_names, stock_same, turn_of_duty, begin_of_turn, hear_of_turn, begin_is, say_is, hear_is, decided, is_role}
@@ -109,6 +111,19 @@ module _ {S : Type 0} (means : S → Meaning) (space : S → ℕ) (cost : Tree �
 
     in_register : (r i : ℕ) (run : Run) (v : Tree) → r < length runs → (st.views r).memory i ≡ some v → means s (register (get_or runs r run).registers i) ≡ Some v
     in_register r i run v l = handle_of_value (means s) (register (get_or runs r run).registers i) ((st.views r).memory i) ((a.stands.each r run l).memory i) v
+
+    pub holding : Holding means space cost X H s runs
+    holding = record {
+      known = λ r t h.
+          let v = a.attend r in
+          subst (λ l. Has l t) (sym v.knows ∙ (a.tells r).known)
+          (term_known (X.party r) v.role v.sheet (st.views r).memory (st.views r).holdings v.stands t (subst⁻¹ (λ z. TermOf z t) (stock_same means space cost X acc H s runs st a r) h));
+      filled = λ r i run t l h.
+          let v = a.attend r in
+          let e = held_every (λ u k. v.sheet k ≡ some u) v.role.known v.stands.good.entries t i (subst⁻¹ (λ k. Held k t i) (sym v.knows ∙ (a.tells r).known) h) in
+          let w = v.stands.filled i t e in
+          (w.0, in_register r i run w.0 l w.1);
+    }
 
     all_read : (R : Tree → Tree) → model.AllRead R st → AllRead means space cost X R H s runs
     all_read R f r i run t l h =
@@ -310,6 +325,7 @@ module _ {S : Type 0} (means : S → Meaning) (space : S → ℕ) (cost : Tree �
     pub lawful_end : (H : List (Step S)) (s : S) (runs : List Run) → Happened means space cost first new H s runs → Lawful means space cost X H s runs
     lawful_end H s runs h = record {
       derived = derived small H s runs st end;
+      holding = holding small H s runs st end;
       decided = along (Decided means space cost X) (λ H s runs st a e d. decided means space cost X acc H s runs st a e d) H [] first new (sessions.new_runs X (space first)) s runs begun h;
       chosen = λ ρ f.
           let fair : model.Fair X cost ρ (sessions.new_runs X (space first)) (events H) = record {

@@ -5,10 +5,10 @@ use Rattle.std.proofs.Math.Option.{Option, none as nothing, some}
 use Rattle.model.specs.Lists.{Every, SomeOf}
 use Rattle.model.specs.Trees.{Tree, leaf}
 use Rattle.model.specs.Deduction.{Party, Derives}
-use Rattle.model.specs.Entries.{Held}
+use Rattle.model.specs.Entries.{Has, Held}
 use Rattle.model.specs.Roles.{Entry, Role}
 use Rattle.model.specs.Readings.{reading_of}
-use Rattle.model.specs.Holdings.{nothing_held, add, ValueOf, Readable}
+use Rattle.model.specs.Holdings.{nothing_held, add, TermOf, ValueOf, Readable}
 use Rattle.model.specs.Specifications.{Specification, message, Duty, begin, speak, listen, duties}
 use Rattle.model.specs.Programs.{nobody_yet, next_role}
 use Rattle.model.specs.SessionLaw.{costs}
@@ -92,6 +92,12 @@ module _ {S : Type 0} (means : S → Meaning) (space : S → ℕ) (cost : Tree �
     pub in_registers : (r q : ℕ) (run : Run) (v : Tree) → r < length runs → means s (register (slice_index_or runs r run).registers q) ≡ Some v
         → Derives (X.party r) (ValueOf (stock means X r H)) v
     pub in_says : (r : ℕ) → Every (λ p. Derives (X.party r) (ValueOf (stock means X r H)) p.1) (lines_said means X r H)
+
+  -- each term that it was given, heard or made is known, and the register of each known term holds a value
+  pub record Holding (H : List (Step S)) (s : S) (runs : List Run) : Type 0 where
+    pub known : (r : ℕ) (t : Tree) → TermOf (stock means X r H) t → Has (known_after X r (length (taken_by r H))) t
+    pub filled : (r i : ℕ) (run : Run) (t : Tree) → r < length runs → Held (known_after X r (length (taken_by r H))) t i
+        → (v : Tree) × (means s (register (slice_index_or runs r run).registers i) ≡ Some v)
 
   -- A value heard in turn, unless the store refuses one of its builds, is taken exactly if some choice for names and closed terms gives all
   -- the role's holdings, this one too, their values; and so are the values given at a begin in turn with right counts.
@@ -183,6 +189,7 @@ module _ {S : Type 0} (means : S → Meaning) (space : S → ℕ) (cost : Tree �
   -- the law, where these steps have led
   pub record Lawful (H : List (Step S)) (s : S) (runs : List Run) : Type 0 where
     pub derived : Derived H s runs
+    pub holding : Holding H s runs
     pub decided : Along Decided [] H
     -- no call in turn was refused
     pub chosen : (ρ : ℕ → Tree) → Fair ρ H → Along NotRefused [] H × AllRead (reading_of ρ) H s runs × AllShare H s runs
