@@ -1,6 +1,5 @@
 -- New runs of a translation's roles are new runs of its specification.
-use Rattle.std.proofs.Common.{◌≡◌, ℕ, ◌<◌, ◌≤◌, true, cond, List, [], ◌∷◌, length, map, get_or, take, vec_items, sym, refl, ap, ap₂, ◌∙◌, subst, arith}
-use Rattle.std.proofs.lemmas.Bool.{lt-ltb}
+use Rattle.std.proofs.Common.{◌≡◌, ℕ, ◌<◌, ◌≤◌, true, List, [], ◌∷◌, length, map, get_or, take, vec_items, sym, refl, ap, ap₂, ◌∙◌, subst, arith}
 use Rattle.std.proofs.lemmas.List.{length-map}
 use Rattle.std.proofs.Math.ListN.{get_or-map}
 use mathlib.Core.Path.{subst⁻¹}
@@ -8,7 +7,6 @@ use Rattle.model.specs.Lists.{Every}
 use Rattle.model.specs.Trees.{Tree}
 use Rattle.model.specs.Specifications.{Specification}
 use Rattle.model.specs.Programs.{program}
-use Rattle.model.specs.Sessions.{new_runs}
 use Rattle.program.specs.Held.{passes}
 use Rattle.terms.specs.declared.declarations.Function.{Function}
 use Rattle.terms.specs.declared.limits.Limits.{Limits}
@@ -34,11 +32,9 @@ use Rattle.run.specs.Plain.{new_plain}
 use Rattle.run.specs.Shown.{Meaning}
 use Rattle.sessions.specs.declared.reply.Reply.{Reply}
 use Rattle.sessions.specs.declared.request.Request.{Request}
-use Rattle.sessions.specs.Going.{Begins}
+use Rattle.sessions.specs.Starting.{Begins}
 use Rattle.sessions.specs.Performing.{Performed, PerformedText}
-use Rattle.sessions.specs.Plays.{Playing, plays_of, no_run}
 use Rattle.sessions.specs.Starting.{short_count, IsNew, NewRuns}
-use Rattle.sessions.proofs.PlainLaw.{plain_law}
 use Rattle.sessions.proofs.Zips.{zip_long, zip_at}
 
 -- a byte holds the count of each function
@@ -74,21 +70,15 @@ module _ (limits : Limits) (text : List ℕ) (T : Translation) (s : Staged (tran
     w : Translated text a.scope a.spec.lines G
     w = law.translates a.spec a.scope G a.declares a.lined
 
-    -- new runs of the roles stand where new runs of the specification do
-    runs_stand : (runs : List Run) → NewRuns (vec_items T.roles) runs → (m : Meaning) (n k : ℕ) (run : Run) → k < length runs → Shows m (get_or runs k run) ((plays_of (new_runs X n)).runs k)
-    runs_stand runs z m n k run l =
-        subst (λ (p : Playing). Shows m (get_or runs k run) (p.runs k)) (plain_law X w.accepted (λ t. 1) n []).state
-        (subst⁻¹ (λ b. Shows m (get_or runs k run) (cond b (new_plain (program X k)) no_run)) (lt-ltb k X.roles inside)
-        (subst (λ xs. Shows m (get_or runs k run) (new_plain xs)) rows (zip_at IsNew (vec_items T.roles) runs k role run l z m)))
+    -- new runs of the roles are new runs of the specification's programs
+    runs_fresh : (runs : List Run) → NewRuns (vec_items T.roles) runs → (m : Meaning) (k : ℕ) (run : Run) → k < length runs → Shows m (get_or runs k run) (new_plain (program X k))
+    runs_fresh runs z m k run l = subst (λ xs. Shows m (get_or runs k run) (new_plain xs)) rows (zip_at IsNew (vec_items T.roles) runs k role run l z m)
       where
         long : length runs ≡ length (vec_items T.roles)
         long = zip_long IsNew (vec_items T.roles) runs z
 
         many : length (players_of T) ≡ length (vec_items T.roles)
         many = length-map (vec_items T.roles) (player_of T.declarations.terms)
-
-        inside : k < X.roles
-        inside = omega (arith, l, long, many, w.many)
 
         role : Role
         role = any (vec_items T.roles) k (omega (arith, l, long))
@@ -101,11 +91,11 @@ module _ (limits : Limits) (text : List ℕ) (T : Translation) (s : Staged (tran
 
     module _ {S : Type 0} (means : S → Meaning) (space : S → ℕ) (cost : Tree → ℕ) (old : S) where
       module _ (runs : List Run) (z : NewRuns (vec_items T.roles) runs) where
-        begins : Begins means space cost X old runs
+        begins : Begins means X old runs
         begins = record {
           accepted = w.accepted;
           many = zip_long IsNew (vec_items T.roles) runs z ∙ sym (length-map (vec_items T.roles) (player_of T.declarations.terms)) ∙ w.many;
-          stands = record { space = refl; each = λ k run l. runs_stand runs z (means old) (space old) k run l };
+          fresh = λ k run l. runs_fresh runs z (means old) k run l;
         }
 
         -- what was performed on them

@@ -1,12 +1,13 @@
 -- What was observed of runs tells how the model's session stands, step by step.
-use Rattle.std.proofs.Common.{◌≡◌, ℕ, Bool, true, false, cond, ◌&&◌, T, eqb, ltb, leb, ◌-◌, ◌⊎◌, ◌↔◌, List, [], ◌∷◌, ◌++◌, length, drop, Ok, Err, Result, sym, refl, ap, ◌∙◌, subst, inl, inr, arith, vec_items}
+use Rattle.std.proofs.Common.{◌≡◌, ℕ, Bool, true, false, cond, ◌&&◌, T, eqb, ltb, leb, ◌-◌, ◌⊎◌, ◌↔◌, List, [], ◌∷◌, ◌++◌, length, drop, Ok, Err, Result, sym, refl, ap, ◌∙◌, subst, inl, inr, arith, vec_items, get_or, ◌<◌}
+use Rattle.std.proofs.lemmas.Bool.{lt-ltb}
 use mathlib.Core.Option.{Option, none as nothing, some}
 use mathlib.Core.Path.{subst⁻¹}
 use Rattle.model.specs.Lists.{Every}
 use Rattle.model.specs.Trees.{tupled, crypted, applied, Tree, leaf}
 use Rattle.model.specs.Runs.{answer}
 use Rattle.model.specs.Specifications.{Specification, Duty, begin as to_do, speak, listen, own, duties}
-use Rattle.model.specs.Programs.{nobody_yet, Turn, begins, says_line, hears_line, Stage, turn_of, Accepted}
+use Rattle.model.specs.Programs.{nobody_yet, Turn, begins, says_line, hears_line, Stage, turn_of, Accepted, program}
 use Rattle.model.specs.Sessions as model
 use Rattle.model.specs.Sessions.{State, Event, begin, say, hear, build, other, Answer, taken, declined, outside, only, to_begin, to_say, to_hear, valid, told, call}
 use Rattle.model.specs.SessionLaw.{Taken}
@@ -19,22 +20,24 @@ use Rattle.model.proofs.Answering.{decides}
 use Rattle.store.specs.declared.fault.StoreFault.{StoreFault}
 use Rattle.store.specs.Makers.{wanted}
 use Rattle.run.specs.declared.run.Run.{Run}
-use Rattle.run.specs.Called.{said}
+use Rattle.run.specs.Called.{said, Shows}
+use Rattle.run.specs.Plain.{new_plain}
 use Rattle.run.specs.Shown.{Meaning, as_option}
 use Rattle.run.specs.declared.fault.RunFault.{RunFault}
 use Rattle.sessions.specs.declared.reply.Reply.{Reply}
 use Rattle.sessions.specs.declared.reply.Reply.TheVariants as replies
 use Rattle.sessions.specs.declared.request.Request.{Request}
 use Rattle.sessions.specs.declared.request.Request.TheVariants.{Begin, Say, Hear, Register, Atom, Tuple, Crypt, Apply, Shape, Part, Unlock, Same, Space}
-use Rattle.sessions.specs.Going.{Begins}
+use Rattle.sessions.specs.Starting.{Begins}
 use Rattle.sessions.specs.Happening.{Did}
 use Rattle.sessions.specs.Observed.{Step, calls, taken as is_taken, taken_by, numbers_in, values_at, values_in, value_said, line_said, said_in}
-use Rattle.sessions.specs.Plays.{Playing, plays_of, play}
+use Rattle.sessions.specs.Plays.{Playing, plays_of, play, no_run}
 use Rattle.sessions.specs.Replying.{Replies, reply_of, Took, Told as SaidSo, Untouched}
 use Rattle.sessions.specs.Requests.{handle_in, handle_of, handles_of, of_maker, event_of}
 use Rattle.sessions.specs.Standing.{Stands}
 use Rattle.sessions.proofs.Advancing.{Advances, Stays, begin_turns, say_turns, hear_turns}
 use Rattle.sessions.proofs.Places.{Place}
+use Rattle.sessions.proofs.PlainLaw.{plain_law}
 use Rattle.sessions.proofs.Playing.{AllShaped, play_same, call_shaped}
 use Rattle.sessions.proofs.Shaped.{program_shaped}
 use Rattle.sessions.proofs.Replying.{Tells, took_tells, told_tells}
@@ -138,10 +141,16 @@ module _ {S : Type 0} (means : S → Meaning) (space : S → ℕ) (cost : Tree �
     pub shaped : AllShaped st
     pub tells : (r : ℕ) → Told means X r (taken_by r H) (st.views r)
 
-  pub at_start : (s : S) (runs : List Run) → Begins means space cost X s runs → At [] s runs (model.new_runs X (space s))
+  -- new runs stand as the model's
+  new_stand : (s : S) (runs : List Run) → Begins means X s runs → (k : ℕ) (run : Run) → k < length runs → Shows (means s) (get_or runs k run) ((plays_of (model.new_runs X (space s))).runs k)
+  new_stand s runs b k run l =
+      subst (λ (p : Playing). Shows (means s) (get_or runs k run) (p.runs k)) (plain_law X acc (λ t. 1) (space s) []).state
+      (subst⁻¹ (λ b. Shows (means s) (get_or runs k run) (cond b (new_plain (program X k)) no_run)) (lt-ltb k X.roles (subst (λ n. k < n) b.many l)) (b.fresh k run l))
+
+  pub at_start : (s : S) (runs : List Run) → Begins means X s runs → At [] s runs (model.new_runs X (space s))
   at_start s runs b = record {
     many = b.many;
-    stands = b.stands;
+    stands = record { space = refl; each = new_stand s runs b };
     attend = new_attend X acc (space s);
     shaped = λ r. (0, program_shaped X acc r);
     tells = λ r. told_new means X r;

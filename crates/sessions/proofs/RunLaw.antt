@@ -28,7 +28,7 @@ use Rattle.sessions.specs.declared.reply.Reply.TheVariants as replies
 use Rattle.sessions.specs.declared.request.Handle.{Handle}
 use Rattle.sessions.specs.declared.request.Request.{Request}
 use Rattle.sessions.specs.declared.request.Request.TheVariants.{Begin, Say, Hear, Register, Atom, Tuple, Crypt, Apply, Shape, Part, Unlock, Same, Space}
-use Rattle.sessions.specs.Going.{Begins}
+use Rattle.sessions.specs.Starting.{Begins}
 use Rattle.sessions.specs.Happening.{store_after, runs_after, Did, Happened}
 use Rattle.sessions.specs.Observed.{Step, taken as is_taken, taken_by, values_at, values_in, stock}
 use Rattle.sessions.specs.Replying.{Replies, Made, reply_by}
@@ -318,7 +318,7 @@ module _ {S : Type 0} (means : S → Meaning) (space : S → ℕ) (cost : Tree �
       go false w k = k w
 
   -- the law, where steps from new runs have led
-  module _ (small : (s : S) → Small (means s)) (first : S) (new : List Run) (b : Begins means space cost X first new) where
+  module _ (small : (s : S) → Small (means s)) (first : S) (new : List Run) (b : Begins means X first new) where
     begun : Now [] first new (sessions.new_runs X (space first))
     begun = at_start means space cost X acc first new b
 
@@ -358,7 +358,7 @@ module _ {S : Type 0} (means : S → Meaning) (space : S → ℕ) (cost : Tree �
   happened_join (e ∷ es) rest s runs t ts s' runs' h k = (h.0, happened_join es rest e.after e.runs t ts s' runs' h.1 k)
 
   -- at every point of steps that went on from others
-  pub lawful_points : (small : (s : S) → Small (means s)) (first : S) (new : List Run) → Begins means space cost X first new → (past : List (Step S)) (old : S) (runs : List Run)
+  pub lawful_points : (small : (s : S) → Small (means s)) (first : S) (new : List Run) → Begins means X first new → (past : List (Step S)) (old : S) (runs : List Run)
       → Happened means space cost first new past old runs → (H : List (Step S)) (s : S) (runs' : List Run) → Happened means space cost old runs H s runs'
       → (es rest : List (Step S)) → H ≡ es ++ rest → Lawful means space cost X (past ++ es) (store_after old es) (runs_after runs es)
   lawful_points small first new b past old runs k H s runs' h es rest e =

@@ -6,7 +6,6 @@ pub mod Performing
 pub mod Standing
 pub mod Asking
 pub mod Moving
-pub mod Going
 pub mod Starting
 pub mod Observed
 pub mod RunLaw

@@ -18,7 +18,7 @@ use Rattle.sessions.specs.declared.fault.SessionFault.{SessionFault}
 use Rattle.sessions.specs.declared.fault.SessionFault.TheVariants.{Translation, NoMemory}
 use Rattle.sessions.specs.declared.reply.Reply.{Reply}
 use Rattle.sessions.specs.declared.request.Request.{Request}
-use Rattle.sessions.specs.Going.{Begins}
+use Rattle.sessions.specs.Starting.{Begins}
 use Rattle.sessions.specs.Happening.{store_after, runs_after, Named, Happened}
 use Rattle.sessions.specs.Observed.{Step}
 use Rattle.sessions.specs.RunLaw.{Lawful}
@@ -32,7 +32,7 @@ module _ {S : Type 0} (means : S → Meaning) (space : S → ℕ) (cost : Tree �
     pub named : Named [] history
     pub happened : Happened means space cost old runs history new runs'
     -- The law holds at every point, where these runs were, or had come from, new runs of the roles of an accepted specification.
-    pub lawful : (X : Specification) (first : S) (fresh : List Run) (past : List (Step S)) → Begins means space cost X first fresh → Happened means space cost first fresh past old runs
+    pub lawful : (X : Specification) (first : S) (fresh : List Run) (past : List (Step S)) → Begins means X first fresh → Happened means space cost first fresh past old runs
         → (es rest : List (Step S)) → history ≡ es ++ rest → Lawful means space cost X (past ++ es) (store_after old es) (runs_after runs es)
 
   -- Where memory lacked, so many requests were performed.
@@ -50,7 +50,7 @@ module _ {S : Type 0} (means : S → Meaning) (space : S → ℕ) (cost : Tree �
       pub accepted : lines limits text [] spec.lines (no_roles scope) ≡ Ok stage
       pub fresh : List Run
       pub left : List Run
-      pub begins : Begins means space cost (specified text scope spec.lines) old fresh
+      pub begins : Begins means (specified text scope spec.lines) old fresh
       pub session : Performed old new fresh left requests replies
       pub lawful : (es rest : List (Step S)) → session.history ≡ es ++ rest → Lawful means space cost (specified text scope spec.lines) es (store_after old es) (runs_after fresh es)
 

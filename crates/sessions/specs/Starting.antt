@@ -1,6 +1,8 @@
 -- New runs of some roles.
-use Rattle.std.specs.Prelude.{ℕ, min, List, map, length, vec_items}
+use Rattle.std.specs.Prelude.{◌≡◌, ℕ, ◌<◌, min, List, map, length, slice_index_or, vec_items}
 use Rattle.std.specs.List.{AllZip}
+use Rattle.model.specs.Specifications.{Specification}
+use Rattle.model.specs.Programs.{program, Accepted}
 use Rattle.terms.specs.declared.declarations.Function.{Function}
 use Rattle.roles.specs.declared.role.Role.{Role}
 use Rattle.run.specs.declared.run.Run.{Run}
@@ -19,3 +21,9 @@ IsNew role run = (m : Meaning) → Shows m run (new_plain (map lined (vec_items 
 
 abbrev pub NewRuns : List Role → List Run → Type 0
 NewRuns roles runs = AllZip IsNew roles runs
+
+-- one for each role of an accepted specification: the run of its program before its begin, with nothing in its registers
+pub record Begins {S : Type 0} (means : S → Meaning) (X : Specification) (old : S) (runs : List Run) : Type 0 where
+  pub accepted : Accepted X
+  pub many : length runs ≡ X.roles
+  pub fresh : (r : ℕ) (run : Run) → r < length runs → Shows (means old) (slice_index_or runs r run) (new_plain (program X r))
