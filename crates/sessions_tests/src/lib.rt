@@ -11,6 +11,8 @@ mod full;
 #[cfg(test)]
 mod honest;
 #[cfg(test)]
+mod lent;
+#[cfg(test)]
 mod lines;
 #[cfg(test)]
 mod misheard;
