@@ -6,7 +6,7 @@ use roles::translate::translate;
 use roles::translation::Translation;
 use std::{fmt, fs};
 use terms::limits::Limits;
-use text::refusal::Refusal;
+use base::Refusal;
 
 fn main(rt: HostRuntime) -> anyhow::Result<()> {
     run(&rt)

@@ -1,9 +1,10 @@
 -- The refusals of lines and of translations.
 use Rattle.std.specs.Prelude.{None, Option}
-use Rattle.text.specs.Refusals.{refuse, text_refusal}
-use Rattle.text.specs.declared.refusal.Cause.TheVariants as causes
-use Rattle.text.specs.declared.refusal.Layer.TheVariants as layers
-use Rattle.text.specs.declared.refusal.Refusal.{Refusal}
+use Rattle.base.specs.Refusals.{refuse}
+use Rattle.text.specs.Refusals.{text_refusal}
+use Rattle.base.specs.declared.refusal.Cause.TheVariants as causes
+use Rattle.base.specs.declared.refusal.Layer.TheVariants as layers
+use Rattle.base.specs.declared.refusal.Refusal.{Refusal}
 use Rattle.syntax.specs.Refusals.{shape_refusal}
 use Rattle.terms.specs.declared.fault.TermFault.{TermFault}
 use Rattle.terms.specs.declared.fault.TermFault.TheVariants as term

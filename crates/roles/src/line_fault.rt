@@ -3,9 +3,9 @@ ghost use Rattle.std.specs.Prelude.{◌≡◌};
 ghost use Rattle.roles.specs.Refusals.{line_refusal, to_line};
 ghost use Rattle.roles.specs.declared.line_fault.LineFault.TheVariants as line_faults;
 
+use base::{Cause, Layer, Refusal};
 use std::alloc::{AllocError, AllocFailed};
 use terms::fault::TermFault;
-use text::refusal::{Cause, Layer, Refusal};
 
 // The place is the first byte of a label, a role's name, the message, or a node within it.
 #[derive(Clone, Copy, PartialEq, Eq, Debug)]

@@ -4,10 +4,10 @@ ghost use Rattle.roles.specs.Refusals.{translation_refusal};
 ghost use Rattle.roles.specs.declared.translation_fault.TranslationFault.TheVariants as translation_faults;
 
 use crate::line_fault::LineFault;
+use base::Refusal;
 use syntax::fault::ShapeFault;
 use terms::fault::DeclarationFault;
 use text::fault::TextFault;
-use text::refusal::Refusal;
 
 // A text is refused by the text, the tree's shape, the declarations or the lines.
 #[derive(Clone, Copy, PartialEq, Eq, Debug)]

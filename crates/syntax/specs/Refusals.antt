@@ -1,9 +1,9 @@
 -- The refusals of a tree's shape.
 use Rattle.std.specs.Prelude.{None, Option}
-use Rattle.text.specs.Refusals.{refuse}
-use Rattle.text.specs.declared.refusal.Cause.TheVariants as causes
-use Rattle.text.specs.declared.refusal.Layer.TheVariants.{Shape}
-use Rattle.text.specs.declared.refusal.Refusal.{Refusal}
+use Rattle.base.specs.Refusals.{refuse}
+use Rattle.base.specs.declared.refusal.Cause.TheVariants as causes
+use Rattle.base.specs.declared.refusal.Layer.TheVariants.{Shape}
+use Rattle.base.specs.declared.refusal.Refusal.{Refusal}
 use Rattle.syntax.specs.declared.fault.ShapeFault.{ShapeFault}
 use Rattle.syntax.specs.declared.fault.ShapeFault.TheVariants as shape
 

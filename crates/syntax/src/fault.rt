@@ -3,8 +3,8 @@ ghost use Rattle.std.specs.Prelude.{◌≡◌};
 ghost use Rattle.syntax.specs.Refusals.{shape_refusal};
 ghost use Rattle.syntax.specs.declared.fault.ShapeFault.TheVariants as shape_faults;
 
+use base::{Cause, Layer, Refusal};
 use std::alloc::{AllocError, AllocFailed};
-use text::refusal::{Cause, Layer, Refusal};
 
 // The tree has no shape of a specification. The place is the node's first byte.
 #[derive(Clone, Copy, PartialEq, Eq, Debug)]

@@ -1,9 +1,9 @@
 -- The refusals of the declarations.
 use Rattle.std.specs.Prelude.{None, Option}
-use Rattle.text.specs.Refusals.{refuse}
-use Rattle.text.specs.declared.refusal.Cause.TheVariants as causes
-use Rattle.text.specs.declared.refusal.Layer.TheVariants.{Declarations}
-use Rattle.text.specs.declared.refusal.Refusal.{Refusal}
+use Rattle.base.specs.Refusals.{refuse}
+use Rattle.base.specs.declared.refusal.Cause.TheVariants as causes
+use Rattle.base.specs.declared.refusal.Layer.TheVariants.{Declarations}
+use Rattle.base.specs.declared.refusal.Refusal.{Refusal}
 use Rattle.terms.specs.declared.fault.TermFault.{TermFault}
 use Rattle.terms.specs.declared.fault.TermFault.TheVariants as term
 use Rattle.terms.specs.declared.fault.DeclarationFault.{DeclarationFault}

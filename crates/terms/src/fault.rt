@@ -4,8 +4,8 @@ ghost use Rattle.terms.specs.Refusals.{declaration_refusal, to_declaration};
 ghost use Rattle.terms.specs.declared.fault.TermFault.TheVariants as term_faults;
 ghost use Rattle.terms.specs.declared.fault.DeclarationFault.TheVariants as declaration_faults;
 
+use base::{Cause, Layer, Refusal};
 use std::alloc::AllocFailed;
-use text::refusal::{Cause, Layer, Refusal};
 
 // A term is refused, in a declaration or in a line.
 #[derive(Clone, Copy, PartialEq, Eq, Debug)]

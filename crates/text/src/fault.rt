@@ -3,7 +3,7 @@ ghost use Rattle.std.specs.Prelude.{◌≡◌};
 ghost use Rattle.text.specs.declared.fault.TextFault.TheVariants.{NoMemory};
 ghost use Rattle.text.specs.Refusals.{text_refusal};
 
-use crate::refusal::{Cause, Layer, Refusal};
+use base::{Cause, Layer, Refusal};
 use std::alloc::{AllocError, AllocFailed};
 
 #[derive(Clone, Copy, PartialEq, Eq, Debug)]

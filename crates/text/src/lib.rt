@@ -8,7 +8,6 @@ pub mod node;
 pub mod part;
 pub mod reader;
 pub mod reading;
-pub mod refusal;
 pub mod token;
 
 pub use crate::reading::read_text;
