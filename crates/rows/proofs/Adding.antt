@@ -4,11 +4,14 @@ use mathlib.Core.Path.{subst⁻¹}
 use Rattle.std.proofs.lemmas.Bool.{cases_eq, eq-eqb, ne_eqb, and_right}
 use Rattle.std.proofs.lemmas.List.{length_push, length-set, get_or_append_left, get_or_push, get_or-replicate, get_or-set_same, get_or-set_other}
 use Rattle.std.proofs.lemmas.Option.{slice_get_past, slice_get_within, slice_get-get_or, get_or_from_slice_get}
-use Rattle.std.specs.List.{slice_get}
+use Rattle.std.proofs.lemmas.List.Elements.{All-push}
+use Rattle.std.specs.List.{All, slice_get}
+use Rattle.model.specs.Storable.{Storable}
 use Rattle.model.specs.Trees.{Tree, leaf}
 use Rattle.rows.specs.declared.entry.Row.{Row}
 use Rattle.rows.specs.declared.entry.Entry.{Entry}
-use Rattle.rows.specs.Rows.{row_value, values, meaning}
+use Rattle.rows.specs.Rows.{row_value, values_after, values, meaning}
+use Rattle.rows.specs.Held.{Held}
 use Rattle.rows.specs.Classes.{place_of, blank, entry_at, row_at, class_at, parts_of, value_at, Classed, Earlier, First, IsOfFirst}
 use Rattle.rows.specs.Hashes.{chain_of}
 use Rattle.rows.specs.Chains.{is_in_chain, last_in, head_after, Chained, Headed}
@@ -20,6 +23,7 @@ use Rattle.rows.proofs.Lasts.{last_same}
 -- a table's invariants, as one fact
 pub record Sound (heads : List ℕ) (es : List Entry) : Type 0 where
   pub all : length heads ≡ 4096
+  pub held : Held es
   pub classed : Classed es
   pub earlier : Earlier es
   pub first : First es
@@ -27,9 +31,10 @@ pub record Sound (heads : List ℕ) (es : List Entry) : Type 0 where
   pub headed : Headed heads es
 
 pub sound_empty : Sound (replicate 4096 0) []
-unfolding last_in
+unfolding last_in values_after
 sound_empty = record {
   all = refl;
+  held = λ i d h. absurd (omega arith);
   classed = λ k h. absurd (omega arith);
   earlier = λ k i h l. absurd (omega arith);
   first = λ k i h l. absurd (omega arith);
@@ -78,7 +83,10 @@ module _ (heads : List ℕ) (es : List Entry) (r : Row) where
   unfolding last_in
   last_left c k h = last_same (is_in_chain longer c) (is_in_chain es c) k (λ j l. ap (λ (e : Entry). (e.class == j) && (chain_of e.row == c)) (at_left j (omega arith)))
 
-  module _ (s : Sound heads es) (f : IsOfFirst es r) where
+  module _ (s : Sound heads es) (f : IsOfFirst es r) (v : Storable (row_value (values es) r)) where
+    held_longer : Held longer
+    held_longer = subst⁻¹ (All Storable) values_longer (All-push Storable (values es) (row_value (values es) r) s.held v)
+
     classed_longer : Classed longer
     classed_longer k h =
         let n = values_length [] es in
@@ -140,6 +148,7 @@ module _ (heads : List ℕ) (es : List Entry) (r : Row) where
     pub sound_longer : chain_of r < 4096 → Sound heads_new longer
     sound_longer b = record {
       all = length-set heads (chain_of r) _ ∙ s.all;
+      held = held_longer;
       classed = classed_longer;
       earlier = earlier_longer;
       first = first_longer;
@@ -169,13 +178,13 @@ extends es e =
     }
 
 -- as the code adds a row
-pub sound_added : (heads heads' : List ℕ) (es es' : List Entry) (r : Row) (class chain next head : ℕ) → Sound heads es → IsOfFirst es r → chain < 4096
+pub sound_added : (heads heads' : List ℕ) (es es' : List Entry) (r : Row) (class chain next head : ℕ) → Sound heads es → IsOfFirst es r → Storable (row_value (values es) r) → chain < 4096
     → class ≡ place_of (row_value (values es) r) (values es) → chain ≡ chain_of r → next ≡ slice_index heads chain → head ≡ head_after class (length es) next
     → heads' ≡ set heads chain head → es' ≡ es ++ record { row = r; class = class; next = next } ∷ [] → Sound heads' es'
-sound_added heads heads' es es' r class chain next head s f b c h n a hs e =
+sound_added heads heads' es es' r class chain next head s f v b c h n a hs e =
     let x : heads' ≡ heads_new heads es r = rw (hs, a, n, h, c) refl in
     let y : es' ≡ longer heads es r = rw (e, n, h, c) refl in
-    subst⁻¹ (λ z. Sound z es') x (subst⁻¹ (Sound (heads_new heads es r)) y (sound_longer heads es r s f (rw h at b)))
+    subst⁻¹ (λ z. Sound z es') x (subst⁻¹ (Sound (heads_new heads es r)) y (sound_longer heads es r s f v (rw h at b)))
 
 pub extended : (es es' : List Entry) (e : Entry) (h : ℕ) → es' ≡ es ++ e ∷ [] → h ≡ length es → Extends (meaning es) (meaning es') (row_value (values es) e.row) h
 extended es es' e h q l = rw (q, l) (extends es e)

@@ -97,5 +97,8 @@ module _ (es : List Entry) (hs : List ℕ) where
       let c = g.count in
       subst⁻¹ (Gathers es hs (n + 1)) (t ∙ take_all 8 (ps ++ k ∷ []) (omega arith)) (gathers_longer n ps k g f (ap (meaning es) (sym q) ∙ e))
 
+  pub gathers_count : (n : ℕ) (ps : List ℕ) → Gathers es hs n ps → n ≡ length hs → length ps ≡ length hs
+  gathers_count n ps g l = g.count ∙ l
+
   pub gathers_all : (n : ℕ) (ps : List ℕ) → Gathers es hs n ps → n ≡ length hs → All (IsFirst es) ps × (gathered (meaning es) hs ≡ Some (values_at (values es) ps))
   gathers_all n ps g l = let c = g.count in (g.firsts, gathered_all (meaning es) (values es) hs ps (omega arith) (λ j b. g.named j (omega arith)))

@@ -4,5 +4,6 @@ pub mod Lasts
 pub mod Finding
 pub mod Adding
 pub mod Asking
+pub mod HeldValues
 pub mod Answering
 pub mod Equality

@@ -4,6 +4,7 @@ pub mod Answered
 pub mod Counts
 pub mod Tables
 pub mod Fitting
+pub mod Held
 -- how a row with an equal value is found
 pub mod Classes
 pub mod Hashes

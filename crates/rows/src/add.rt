@@ -1,5 +1,6 @@
 // Adding a row.
 ghost use Rattle.std.specs.Prelude.{◌≡◌, ◌<◌, Ok};
+ghost use Rattle.model.specs.Storable.{Storable};
 ghost use Rattle.rows.specs.Rows.{values, row_value};
 ghost use Rattle.rows.specs.Classes.{IsOfFirst};
 ghost use Rattle.rows.specs.Chains.{head_after};
@@ -25,7 +26,8 @@ fn head_of_chain(class: usize, number: usize, next: u16) -> u16
 impl Rows {
     // A row over first rows, if there is room.
     pub(crate) fn add(&mut self, row: Row) -> Result<u32, StoreFault>
-        requires { IsOfFirst self.old.entries.items row }
+        requires first { IsOfFirst self.old.entries.items row }
+        requires held { Storable (row_value (values self.old.entries.items) row) }
         ensures { Adds self.old self.new (Ok (row_value (values self.old.entries.items) row)) result }
     {
         let number = self.entries.len();

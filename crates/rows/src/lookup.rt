@@ -1,5 +1,5 @@
 // Reading rows, and which earlier row has an equal value.
-ghost use Rattle.std.specs.Prelude.{◌≡◌, ◌≤◌, Some, None, length, MatchResult};
+ghost use Rattle.std.specs.Prelude.{◌≡◌, ◌≤◌, Some, None, length, IfOk, MatchResult};
 ghost use Rattle.std.specs.List.{All};
 ghost use Rattle.store.specs.Makers.{gathered};
 ghost use Rattle.store.specs.declared.fault.StoreFault.TheVariants.{Invalid};
@@ -73,7 +73,8 @@ impl Rows {
     // The first rows with the values of some handles.
     pub(crate) fn firsts(&self, handles: &[u32]) -> Result<Parts, StoreFault>
         requires { length handles.now ≤ 8 }
-        ensures { MatchResult result
+        ensures count { IfOk result (λ ks. length ks ≡ length handles.now) }
+        ensures values { MatchResult result
             (λ ks. All (IsFirst self.now.entries.items) ks × (gathered (meaning self.now.entries.items) handles.now ≡ Some (values_at (values self.now.entries.items) ks)))
             (λ e. (e ≡ Invalid) × (gathered (meaning self.now.entries.items) handles.now ≡ None)) }
     {

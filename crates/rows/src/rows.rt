@@ -1,6 +1,9 @@
 // The row table. Row k is the value of handle k; its parts are named by the first rows with their values.
 ghost use Rattle.std.specs.Prelude.{◌≡◌, ◌≤◌, length, vec_capacity};
+ghost use Rattle.std.proofs.Props.{props};
+ghost use Rattle.store.specs.StorableFact.{storable_prop};
 ghost use Rattle.rows.specs.Classes.{Classed, Earlier, First};
+ghost use Rattle.rows.specs.Held.{Held};
 ghost use Rattle.rows.specs.Chains.{Chained, Headed};
 
 use crate::entry::Entry;
@@ -12,6 +15,7 @@ pub struct Rows {
     pub(crate) heads: Vec<u16>,
     ghost few: { vec_capacity entries ≤ 4096 },
     ghost all: { length heads.items ≡ 4096 },
+    ghost held: { Held entries.items } by { Prim.hlevel (props, storable_prop) },
     ghost classed: { Classed entries.items },
     ghost earlier: { Earlier entries.items },
     ghost first: { First entries.items },

@@ -1,7 +1,7 @@
 // The row table as a store.
 ghost use Rattle.std.specs.Prelude.{◌≡◌, ◌≤◌, ◌<◌, ℕ, Some};
-ghost use Rattle.rows.specs.Rows.{meaning};
-ghost use Rattle.rows.specs.Counts.{rows_left};
+ghost use Rattle.rows.specs.Tables.{table};
+ghost use Rattle.rows.specs.Held.{handles_hold};
 ghost use Rattle.rows.specs.Fitting.{handles_fit};
 ghost use Rattle.std.proofs.Common.{rules};
 
@@ -13,11 +13,7 @@ use store::shape::Shape;
 use store::store::Store;
 
 impl Store for Rows {
-    ghost means = { λ t h. meaning t.entries.items h };
-
-    ghost space = { λ t. rows_left t.entries };
-
-    ghost cost = { λ _. 1 };
+    ghost semantics = { table };
 
     fn make_atom(&mut self, number: u32) -> Result<u32, StoreFault> {
         self.add(Row::Atom(number))
@@ -65,7 +61,9 @@ impl Store for Rows {
         self.entries.capacity() - self.entries.len()
     }
 
-    ghost each_costs = { λ v. Prim.search rules };
+    ghost each_costs = { λ t v. Prim.search rules };
 
     ghost each_fits = { λ t h v e. handles_fit t.entries t.few h v e };
+
+    ghost each_holds = { λ t h v e. handles_hold t.entries.items t.held h v e };
 }

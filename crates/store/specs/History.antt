@@ -7,6 +7,7 @@ use Rattle.store.specs.declared.call.Call.{Call}
 use Rattle.store.specs.declared.call.Call.TheVariants.{MakeAtom, MakeTuple, MakeCrypt, MakeApply, AskShape, AskPart, AskUnlock, AskSame, AskSpace}
 use Rattle.store.specs.declared.call.Answer.{Answer}
 use Rattle.store.specs.declared.call.Answer.TheVariants as answers
+use Rattle.store.specs.Semantics.{Semantics}
 use Rattle.store.specs.Makers.{wanted, Makes}
 use Rattle.store.specs.Questions.{shape_answer, part_value, unlocked_value, same_answer, Answers}
 
@@ -73,6 +74,15 @@ abbrev pub made_count : List Call → List Answer → ℕ → ℕ
 made_count calls given zero = 0
 made_count calls given (suc n) = made_count calls given n + is_made (made_at calls given n)
 
+-- what a value costs that was made, by a list of prices and what handles mean
+abbrev pub price : (Tree → ℕ) → Option Tree → ℕ
+price c None = 0
+price c (Some v) = c v
+
+abbrev pub price_of : (Tree → ℕ) → (ℕ → Option Tree) → Option ℕ → ℕ
+price_of c m None = 0
+price_of c m (Some h) = price c (m h)
+
 -- What an answer tells of values, where handles mean what m says: a fault tells nothing.
 module _ (m : ℕ → Option Tree) where
   abbrev pub Names : Result Tree StoreFault → Result ℕ StoreFault → Type 0
@@ -89,27 +99,18 @@ module _ (m : ℕ → Option Tree) where
   Tells (AskSame l r) a = OnEqual (λ b. IfOk b (λ e. same_answer (m l) (m r) ≡ Ok e)) a
   Tells AskSpace a = OnSpace (λ n. Unit {0}) a
 
-module _ {S : Type 0} (means : S → ℕ → Option Tree) (space : S → ℕ) (cost : Tree → ℕ) where
+module _ {S : Type 0} (M : Semantics S) where
   -- one call: a maker does what it says; a question answers and alters nothing
   abbrev pub Answered : S → S → Call → Answer → Type 0
-  Answered s t (MakeAtom n) a = OnHandle (Makes means space cost s t (Ok (leaf n))) a
-  Answered s t (MakeTuple hs) a = OnHandle (Makes means space cost s t (wanted (means s) tupled hs.now)) a
-  Answered s t (MakeCrypt x k) a = OnHandle (Makes means space cost s t (wanted (means s) crypted (x ∷ k ∷ []))) a
-  Answered s t (MakeApply f hs) a = OnHandle (Makes means space cost s t (wanted (means s) (applied f) hs.now)) a
-  Answered s t (AskShape h) a = (t ≡ s) × OnShape (λ r. r ≡ shape_answer (means s h)) a
-  Answered s t (AskPart h i) a = (t ≡ s) × OnHandle (Answers (means s) (part_value (means s h) i)) a
-  Answered s t (AskUnlock h k) a = (t ≡ s) × OnHandle (Answers (means s) (unlocked_value (means s h) (means s k))) a
-  Answered s t (AskSame x y) a = (t ≡ s) × OnEqual (λ r. r ≡ same_answer (means s x) (means s y)) a
-  Answered s t AskSpace a = (t ≡ s) × OnSpace (λ n. n ≡ space s) a
-
-  -- what a value costs that was made
-  abbrev pub price : Option Tree → ℕ
-  price None = 0
-  price (Some v) = cost v
-
-  abbrev pub price_of : S → Option ℕ → ℕ
-  price_of t None = 0
-  price_of t (Some h) = price (means t h)
+  Answered s t (MakeAtom n) a = OnHandle (Makes M s t (Ok (leaf n))) a
+  Answered s t (MakeTuple hs) a = OnHandle (Makes M s t (wanted (M.means s) tupled hs.now)) a
+  Answered s t (MakeCrypt x k) a = OnHandle (Makes M s t (wanted (M.means s) crypted (x ∷ k ∷ []))) a
+  Answered s t (MakeApply f hs) a = OnHandle (Makes M s t (wanted (M.means s) (applied f) hs.now)) a
+  Answered s t (AskShape h) a = (t ≡ s) × OnShape (λ r. r ≡ shape_answer (M.means s h)) a
+  Answered s t (AskPart h i) a = (t ≡ s) × OnHandle (Answers (M.means s) (part_value (M.means s h) i)) a
+  Answered s t (AskUnlock h k) a = (t ≡ s) × OnHandle (Answers (M.means s) (unlocked_value (M.means s h) (M.means s k))) a
+  Answered s t (AskSame x y) a = (t ≡ s) × OnEqual (λ r. r ≡ same_answer (M.means s x) (M.means s y)) a
+  Answered s t AskSpace a = (t ≡ s) × OnSpace (λ n. n ≡ M.space s) a
 
   module _ (calls : List Call) (given : List Answer) (old : S) where
     -- the first n calls, each with its answer, lead to a store
@@ -120,16 +121,18 @@ module _ {S : Type 0} (means : S → ℕ → Option Tree) (space : S → ℕ) (c
     -- what the values cost that the first n calls made
     abbrev pub total : S → ℕ → ℕ
     total t zero = 0
-    total t (suc n) = total t n + price_of t (made_at calls given n)
+    total t (suc n) = total t n + price_of (M.cost old) (M.means t) (made_at calls given n)
 
     -- The law of the first n calls, of the stores before and after them.
     pub record Lawful (n : ℕ) (new : S) : Type 0 where
       -- each handle that was valid keeps its value
-      pub kept : (h : ℕ) → (v : Tree) → means old h ≡ Some v → means new h ≡ Some v
+      pub kept : (h : ℕ) → (v : Tree) → M.means old h ≡ Some v → M.means new h ≡ Some v
       -- what each answer told of values is so in the end
-      pub holds : (k : ℕ) → k < n → Tells (means new) (call_at calls k) (answer_at given k)
+      pub holds : (k : ℕ) → k < n → Tells (M.means new) (call_at calls k) (answer_at given k)
       -- each value that was made has a handle that was not valid before, and that no other has
-      pub fresh : (k h : ℕ) → k < n → made_at calls given k ≡ Some h → means old h ≡ None
+      pub fresh : (k h : ℕ) → k < n → made_at calls given k ≡ Some h → M.means old h ≡ None
       pub own : (j k h : ℕ) → j < k → k < n → made_at calls given j ≡ Some h → made_at calls given k ≢ Some h
       -- the space paid for what was made, and for nothing else
-      pub paid : space new + total new n ≡ space old
+      pub paid : M.space new + total new n ≡ M.space old
+      -- and no value costs more than before, or less
+      pub priced : M.cost new ≡ M.cost old

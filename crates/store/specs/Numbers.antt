@@ -1,15 +1,7 @@
--- Faults and shapes as numbers.
+-- Shapes as numbers.
 use Rattle.std.specs.Prelude.{ℕ}
-use Rattle.store.specs.declared.fault.StoreFault.{StoreFault}
-use Rattle.store.specs.declared.fault.StoreFault.TheVariants.{Invalid, NoPart, Mismatch, Full}
 use Rattle.store.specs.declared.shape.Shape.{Shape}
 use Rattle.store.specs.declared.shape.Shape.TheVariants.{Atom, Tuple, Crypt, Apply}
-
-abbrev pub fault_number : StoreFault → ℕ
-fault_number Invalid = 12
-fault_number NoPart = 13
-fault_number Mismatch = 14
-fault_number Full = 15
 
 -- 1 an atom, 2 a tuple, 3 a ciphertext, 4 an application
 abbrev pub kind_number : Shape → ℕ

@@ -7,7 +7,7 @@ use crate::store::Store;
 
 // One call.
 pub fn answer<S: Store>(store: &mut S, call: &Call<'_>) -> Answer
-    ensures { Answered S.means S.space S.cost store.old store.new call.now result }
+    ensures { Answered S.semantics store.old store.new call.now result }
 {
     match *call {
         Call::MakeAtom(number) => Answer::Handle(store.make_atom(number)),
@@ -24,10 +24,10 @@ pub fn answer<S: Store>(store: &mut S, call: &Call<'_>) -> Answer
 
 // Calls in order, as many as there is room for answers.
 pub fn perform<S: Store>(store: &mut S, calls: &[Call<'_>], answers: &mut [Answer])
-    ensures performed { Performed S.means S.space S.cost calls.now answers.new store.old (min (length calls.now) (length answers.old)) store.new }
-    ensures lawful { Lawful S.means S.space S.cost calls.now answers.new store.old (min (length calls.now) (length answers.old)) store.new }
+    ensures performed { Performed S.semantics calls.now answers.new store.old (min (length calls.now) (length answers.old)) store.new }
+    ensures lawful { Lawful S.semantics calls.now answers.new store.old (min (length calls.now) (length answers.old)) store.new }
     // as many values as there was space for, since each costs something, and no handle is the greatest number
-    ensures few { made_count calls.now answers.new (min (length calls.now) (length answers.old)) + S.space store.new ≤ S.space store.old }
+    ensures few { made_count calls.now answers.new (min (length calls.now) (length answers.old)) + S.semantics.space store.new ≤ S.semantics.space store.old }
     ensures small { (k h : ℕ) → k < min (length calls.now) (length answers.old) → made_at calls.now answers.new k ≡ Some h → h < 4294967295 }
     ensures rest { drop (min (length calls.now) (length answers.old)) answers.new ≡ drop (min (length calls.now) (length answers.old)) answers.old }
 {

@@ -1,6 +1,6 @@
 -- A value's encoding behind the others.
-use Rattle.std.proofs.Common.{◌≡◌, ℕ, zero, suc, ◌-◌, ◌≤◌, ◌⊎◌, inl, inr, Bool, true, false, List, [], ◌∷◌, ◌++◌, length, arith, refl, ap, sym, subst, ◌∙◌, append_assoc, append-nil}
-use Rattle.std.proofs.lemmas.Bool.{false≢true, cases_Bool}
+use Rattle.std.proofs.Common.{◌≡◌, ℕ, zero, suc, ◌-◌, ◌<◌, ◌≤◌, ◌⊎◌, inl, inr, Bool, true, false, List, [], ◌∷◌, ◌++◌, length, arith, refl, ap, sym, subst, ◌∙◌, append_assoc, append-nil}
+use Rattle.std.proofs.lemmas.Bool.{cases_Bool}
 use Rattle.std.proofs.lemmas.List.{drop-append-le, drop_at}
 use Rattle.std.specs.Prelude.{Some, None, Option, if◌then◌else◌, ◌==◌, slice_index}
 use Rattle.std.specs.List.{flat_map}
@@ -31,21 +31,21 @@ size_first b bs cs = go (b == 1) (b == 2) (b == 3)
     go false false false = refl
 
 -- bytes added behind
-starts_append : (k : ℕ) (bs : List ℕ) (h : ℕ) (cs : List ℕ) → starts k bs h ≡ true → starts k (bs ++ cs) h ≡ true
+pub starts_same : (k : ℕ) (bs : List ℕ) (h : ℕ) (cs : List ℕ) → h < length bs → starts k (bs ++ cs) h ≡ starts k bs h
 unfolding starts
-starts_append k [] h cs e = absurd (false≢true e)
-starts_append zero (b ∷ bs) zero cs e = refl
-starts_append zero (b ∷ bs) (suc h) cs e =
+starts_same k [] h cs l = absurd (omega arith)
+starts_same zero (b ∷ bs) zero cs l = refl
+starts_same zero (b ∷ bs) (suc h) cs l =
     ap (λ n. starts (n - 1) (bs ++ cs) h) (size_first b (bs ++ cs) bs)
-    ∙ starts_append (header_size (header (b ∷ bs)) - 1) bs h cs e
-starts_append (suc k) (b ∷ bs) zero cs e = absurd (false≢true e)
-starts_append (suc k) (b ∷ bs) (suc h) cs e = starts_append k bs h cs e
+    ∙ starts_same (header_size (header (b ∷ bs)) - 1) bs h cs (omega arith)
+starts_same (suc k) (b ∷ bs) zero cs l = refl
+starts_same (suc k) (b ∷ bs) (suc h) cs l = starts_same k bs h cs (omega arith)
 
 begins_append : (bs : List ℕ) (h : ℕ) (v : Tree) (cs : List ℕ) → Begins bs h v → Begins (bs ++ cs) h v
 begins_append bs h v cs b =
     let l = starts_within 0 bs h b.starts in
     record {
-      starts = starts_append 0 bs h cs b.starts;
+      starts = starts_same 0 bs h cs l ∙ b.starts;
       stands = record {
         rest = b.stands.rest ++ cs;
         formed = b.stands.formed;

@@ -9,7 +9,7 @@ use Rattle.tape.specs.declared.tape.Tape.{Tape}
 use Rattle.tape.specs.Values.{starts, Stands, Begins}
 use Rattle.tape.specs.Fitting.{starts_within}
 use Rattle.tape.specs.Opening.{Gives}
-use Rattle.tape.specs.Tapes.{bytes_of, tape_means, Names}
+use Rattle.tape.specs.Tapes.{bytes_of, tape, Names}
 use Rattle.tape.proofs.Reaching.{value_there, anywhere}
 
 gives_within : (bs : List ℕ) (o : Option Tree) (f : StoreFault) (at : ℕ) → Gives bs o f (Ok at) → at < length bs
@@ -25,25 +25,25 @@ module _ (t : Tape) (bs : List ℕ) (is : bs ≡ bytes_of t) where
   pub named_within : (h at : ℕ) → Names t h at → at ≤ length bs
   named_within h at n = let l = starts_within 0 (bytes_of t) at n.begins.starts in let e = ap length is in omega arith
 
-  gives_answers : (o : Option Tree) (f : StoreFault) (r : Result ℕ StoreFault) → Gives bs o f r → Answers (tape_means t) (ok_or o f) r
+  gives_answers : (o : Option Tree) (f : StoreFault) (r : Result ℕ StoreFault) → Gives bs o f r → Answers (tape.means t) (ok_or o f) r
   gives_answers None f (Ok at) g = g
   gives_answers None f (Err e) g = g
   gives_answers (Some v) f (Ok at) g = value_there (bytes_of t) at v (subst (λ cs. Begins cs at v) is g)
   gives_answers (Some v) f (Err e) g = g
 
   pub part_answer : (h at index : ℕ) (r : Result ℕ StoreFault) → Names t h at → ((v : Tree) → Begins bs at v → Gives bs (part_of v index) NoPart r)
-      → Answers (tape_means t) (part_value (tape_means t h) index) r
+      → Answers (tape.means t) (part_value (tape.means t h) index) r
   part_answer h at index r n f =
       let b = subst (λ cs. Begins cs at n.value) (sym is) n.begins in
-      subst (λ o. Answers (tape_means t) (part_value o index) r) (sym n.means) (gives_answers (part_of n.value index) NoPart r (f n.value b))
+      subst (λ o. Answers (tape.means t) (part_value o index) r) (sym n.means) (gives_answers (part_of n.value index) NoPart r (f n.value b))
 
   pub text_answer : (h at k place : ℕ) (r : Result ℕ StoreFault) → Names t h at → Names t k place → ((v w : Tree) → Begins bs at v → Stands bs place w → Gives bs (text_of v w) Mismatch r)
-      → Answers (tape_means t) (unlocked_value (tape_means t h) (tape_means t k)) r
+      → Answers (tape.means t) (unlocked_value (tape.means t h) (tape.means t k)) r
   text_answer h at k place r n m f =
       let b = subst (λ cs. Begins cs at n.value) (sym is) n.begins in
       let c = subst (λ cs. Stands cs place m.value) (sym is) m.begins.stands in
-      subst (λ o. Answers (tape_means t) (unlocked_value o (tape_means t k)) r) (sym n.means)
-      (subst (λ o. Answers (tape_means t) (unlocked_value (Some n.value) o) r) (sym m.means) (gives_answers (text_of n.value m.value) Mismatch r (f n.value m.value b c)))
+      subst (λ o. Answers (tape.means t) (unlocked_value o (tape.means t k)) r) (sym n.means)
+      (subst (λ o. Answers (tape.means t) (unlocked_value (Some n.value) o) r) (sym m.means) (gives_answers (text_of n.value m.value) Mismatch r (f n.value m.value b c)))
 
   pub part_within : (h at index part : ℕ) → Names t h at → ((v : Tree) → Begins bs at v → Gives bs (part_of v index) NoPart (Ok part)) → part < length bs
   part_within h at index part n f = gives_within bs (part_of n.value index) NoPart part (f n.value (subst (λ cs. Begins cs at n.value) (sym is) n.begins))

@@ -33,14 +33,14 @@ build_formed Crypt ts e f = (two_formed ts (sym e), f)
 build_formed (Apply g c) ts e f = (tt, f)
 
 -- the values of handles, one for each
-record Both (o : Option Tree) (r : Option Trees) (ts : Trees) : Type 0 where
-  first : Tree
-  others : Trees
-  one : o ≡ Some first
-  rest : r ≡ Some others
-  all : more first others ≡ ts
+pub record Both (o : Option Tree) (r : Option Trees) (ts : Trees) : Type 0 where
+  pub first : Tree
+  pub others : Trees
+  pub one : o ≡ Some first
+  pub rest : r ≡ Some others
+  pub all : more first others ≡ ts
 
-both : (o : Option Tree) (r : Option Trees) (ts : Trees) → with_more o r ≡ Some ts → Both o r ts
+pub both : (o : Option Tree) (r : Option Trees) (ts : Trees) → with_more o r ≡ Some ts → Both o r ts
 both None r ts e = absurd (let z : ◌≡◌ {A = Option Trees} None (Some ts) = e in cc)
 both (Some v) None ts e = absurd (let z : ◌≡◌ {A = Option Trees} None (Some ts) = e in cc)
 both (Some v) (Some us) ts e = record {

@@ -63,7 +63,7 @@ one_read bs start v at left n p u l en ep = go u.values u.formed u.counted u.spe
         record {
           values = us;
           rest = u.rest;
-          formed = every_append (listed (parts_of w)) ws (every_listed (parts_of w) (formed_parts w f.0)) f.1;
+          formed = every_append Formed (listed (parts_of w)) ws (every_listed (parts_of w) (formed_parts w f.0)) f.1;
           counted = omega arith;
           spelled =
               sym (drop-drop n at bs)

@@ -17,9 +17,9 @@ pub every_listed : (ts : Trees) → FormedAll ts → Every Formed (listed ts)
 every_listed none f = tt
 every_listed (more t ts) f = (f.0, every_listed ts f.1)
 
-pub every_append : (us vs : List Tree) → Every Formed us → Every Formed vs → Every Formed (us ++ vs)
-every_append [] vs f g = g
-every_append (u ∷ us) vs f g = (f.0, every_append us vs f.1 g)
+pub every_append : (P : Tree → Type 0) (us vs : List Tree) → Every P us → Every P vs → Every P (us ++ vs)
+every_append P [] vs f g = g
+every_append P (u ∷ us) vs f g = (f.0, every_append P us vs f.1 g)
 
 every_drop : (n : ℕ) (vs : List Tree) → Every Formed vs → Every Formed (drop n vs)
 every_drop zero vs f = f

@@ -10,6 +10,7 @@ pub mod Gathering
 pub mod Sizing
 pub mod Appending
 pub mod Building
+pub mod HeldValues
 pub mod Making
 pub mod Opening
 pub mod Asking

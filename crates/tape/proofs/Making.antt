@@ -10,11 +10,13 @@ use Rattle.store.specs.Makers.{Made, Makes}
 use Rattle.tape.specs.declared.tape.Tape.{Tape}
 use Rattle.tape.specs.Headers.{header_bytes, header_size, parts_after}
 use Rattle.tape.specs.Values.{build, meaning, IsWhole}
+use Rattle.tape.specs.Held.{Held, IsNumbered}
 use Rattle.tape.specs.Making.{parts_on, overwritten}
-use Rattle.tape.specs.Tapes.{bytes_of, tape_means, tape_space, to_make, Puts}
+use Rattle.tape.specs.Tapes.{bytes_of, tape, to_make, Puts}
 use Rattle.tape.proofs.Decoding.{length_header}
 use Rattle.tape.proofs.Appending.{whole_append, kept_append, named_append, fresh_end}
 use Rattle.tape.proofs.Building.{encode_build, build_formed, valid, take_overwritten, overwritten_twice}
+use Rattle.tape.proofs.HeldValues.{build_held, parts_held, held_append}
 
 module _ (t : Tape) (s : Form) (hs : List ℕ) (parts : Trees) (n : ℕ) (counted : length hs ≡ parts_after s) (are : parts_on (bytes_of t) hs ≡ Some parts) (long : n ≡ length (encode_all parts)) where
   -- the value that is to be made, and its encoding
@@ -37,9 +39,9 @@ module _ (t : Tape) (s : Form) (hs : List ℕ) (parts : Trees) (n : ℕ) (counte
       let h = length_header s in
       omega arith
 
-  pub refused : tape_space t < header_size s + n → Makes tape_means tape_space tape_cost t t (to_make t s hs) (Err Full)
+  pub refused : tape.space t < header_size s + n → Makes tape t t (to_make t s hs) (Err Full)
   refused l =
-      subst (λ r. Makes tape_means tape_space tape_cost t t r (Err Full)) (sym wanted) (refl, refl, (let c = cost_is in omega arith))
+      subst (λ r. Makes tape t t r (Err Full)) (sym wanted) (refl, refl, (let c = cost_is in omega arith))
 
   module _ (one two : Tape) (place size : ℕ) (header : Puts t one t.used (header_bytes s)) (at : place ≡ t.used + header_size s) (all : size ≡ header_size s + n) (room : size ≤ vec_len t.bytes - t.used)
       (copied : (ts : Trees) → parts_on (bytes_of one) hs ≡ Some ts → Puts one two place (encode_all ts)) where
@@ -66,9 +68,14 @@ module _ (t : Tape) (s : Form) (hs : List ℕ) (parts : Trees) (n : ℕ) (counte
     pub whole_after : IsWhole (take (t.used + size) two.bytes.items)
     whole_after = subst IsWhole (sym written) (whole_append (bytes_of t) t.whole value formed)
 
+    pub held_after : IsNumbered s → parts_after s ≤ 8 → Held (take (t.used + size) two.bytes.items)
+    held_after i l =
+        let v = build_held s parts i enough l (parts_held (bytes_of t) t.held hs parts are) in
+        subst Held (sym written) (held_append (bytes_of t) t.whole t.held value v)
+
     pub made : (t' : Tape) → bytes_of t' ≡ take (t.used + size) two.bytes.items → t'.used ≡ t.used + size → vec_len t'.bytes ≡ vec_len two.bytes
-        → Makes tape_means tape_space tape_cost t t' (to_make t s hs) (Ok t.used)
-    made t' b u l = subst (λ r. Makes tape_means tape_space tape_cost t t' r (Ok t.used)) (sym wanted) new
+        → Makes tape t t' (to_make t s hs) (Ok t.used)
+    made t' b u l = subst (λ r. Makes tape t t' r (Ok t.used)) (sym wanted) new
       where
         is : bytes_of t' ≡ bytes_of t ++ encode value
         is = b ∙ written
@@ -76,10 +83,11 @@ module _ (t : Tape) (s : Form) (hs : List ℕ) (parts : Trees) (n : ℕ) (counte
         here : length (bytes_of t) ≡ t.used
         here = let a = t.within in let b = t.bytes.ok.0 in length-take-le t.used t.bytes.items (omega arith)
 
-        new : Made tape_means tape_space tape_cost t t' value t.used
+        new : Made tape t t' value t.used
         new = record {
           fresh = fresh_end (bytes_of t) t.used (let h = here in omega arith);
           named = ap (λ bs. meaning bs t.used) is ∙ named_append (bytes_of t) t.whole value formed t.used (sym here);
           kept = λ k w e. ap (λ bs. meaning bs k) is ∙ kept_append (bytes_of t) t.whole value formed k w e;
           paid = let c = cost_is in let d = header.long in let e = body.long in let f = t.within in omega arith;
+          priced = refl;
         }

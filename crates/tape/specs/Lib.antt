@@ -1,5 +1,6 @@
 pub mod Headers
 pub mod Values
+pub mod Held
 pub mod Opening
 pub mod Making
 pub mod Fitting

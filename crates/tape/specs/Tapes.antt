@@ -1,9 +1,11 @@
 -- A tape as a store.
-use Rattle.std.specs.Prelude.{◌≡◌, ℕ, ◌-◌, List, take, Some, None, Ok, Err, Option, Result, ok_or, option_map, vec_len}
+use Rattle.std.specs.Prelude.{◌≡◌, ℕ, ◌-◌, List, take, Some, None, Ok, Err, Result, ok_or, option_map, vec_len}
 use Rattle.model.specs.Trees.{Tree}
 use Rattle.store.specs.declared.fault.StoreFault.{StoreFault}
 use Rattle.store.specs.declared.fault.StoreFault.TheVariants.{Invalid}
 use Rattle.store.specs.declared.shape.Shape.{Shape}
+use Rattle.model.specs.Tape.{tape_cost}
+use Rattle.store.specs.Semantics.{Semantics}
 use Rattle.tape.specs.declared.tape.Tape.{Tape}
 use Rattle.tape.specs.Values.{build, meaning, Begins}
 use Rattle.tape.specs.Making.{parts_on, overwritten}
@@ -12,12 +14,9 @@ use Rattle.tape.specs.Making.{parts_on, overwritten}
 abbrev pub bytes_of : Tape → List ℕ
 bytes_of t = take t.used t.bytes.items
 
-abbrev pub tape_means : Tape → ℕ → Option Tree
-tape_means t h = meaning (bytes_of t) h
-
--- how many bytes are left
-abbrev pub tape_space : Tape → ℕ
-tape_space t = vec_len t.bytes - t.used
+-- a handle is where an encoding starts; the space is the bytes that are left; a value costs as many as its encoding has
+abbrev pub tape : Semantics Tape
+tape = record { means = λ t h. meaning (bytes_of t) h; space = λ t. vec_len t.bytes - t.used; cost = λ t. tape_cost }
 
 -- the value of a shape that is to be made
 abbrev pub to_make : Tape → Shape → List ℕ → Result Tree StoreFault
@@ -26,12 +25,12 @@ to_make t s hs = ok_or (option_map (build s) (parts_on (bytes_of t) hs)) Invalid
 -- a handle's value, and the place of its encoding
 pub record Names (t : Tape) (h at : ℕ) : Type 0 where
   pub value : Tree
-  pub means : tape_means t h ≡ Some value
+  pub means : tape.means t h ≡ Some value
   pub begins : Begins (bytes_of t) at value
 
 abbrev pub Finds : Tape → ℕ → Result ℕ StoreFault → Type 0
 Finds t h (Ok at) = Names t h at
-Finds t h (Err e) = (e ≡ Invalid) × (tape_means t h ≡ None)
+Finds t h (Err e) = (e ≡ Invalid) × (tape.means t h ≡ None)
 
 -- bytes were written at a place, and nothing else was changed
 pub record Puts (t t' : Tape) (at : ℕ) (ys : List ℕ) : Type 0 where

@@ -1,7 +1,7 @@
 // A tape's bytes, and the places of handles.
 ghost use Rattle.std.specs.Prelude.{◌≡◌, ℕ, ◌≤◌, [], length, min, None, IfOk};
 ghost use Rattle.tape.specs.Values.{IsWhole};
-ghost use Rattle.tape.specs.Tapes.{bytes_of, tape_means, tape_space, Finds};
+ghost use Rattle.tape.specs.Tapes.{bytes_of, tape, Finds};
 ghost use Rattle.tape.specs.Law.{TapeLaw};
 
 use crate::tape::Tape;
@@ -15,9 +15,9 @@ const MOST: usize = 65535;
 impl Tape {
     // An empty tape of at most `most` bytes, and never more than 65,535.
     pub fn new(heap: Global, most: usize) -> Result<Tape, AllocError>
-        ensures empty { IfOk result (λ t. (h : ℕ) → tape_means t h ≡ None) }
+        ensures empty { IfOk result (λ t. (h : ℕ) → tape.means t h ≡ None) }
         ensures bytes { IfOk result (λ t. bytes_of t ≡ []) }
-        ensures room { IfOk result (λ t. tape_space t ≡ min most 65535) }
+        ensures room { IfOk result (λ t. tape.space t ≡ min most 65535) }
         ensures law { TapeLaw }
     {
         Ok(Tape {

@@ -1,8 +1,7 @@
 // A tape as a store.
 ghost use Rattle.std.specs.Prelude.{◌≡◌, vec_len};
-ghost use Rattle.model.specs.Tape.{tape_cost};
 ghost use Rattle.tape.specs.Fitting.{some_cost, tape_handle};
-ghost use Rattle.tape.specs.Tapes.{tape_means, tape_space};
+ghost use Rattle.tape.specs.Tapes.{tape};
 
 use crate::header::header_at;
 use crate::open::{find_part, find_text};
@@ -16,11 +15,7 @@ use store::store::Store;
 const PARTS: usize = 8;
 
 impl Store for Tape {
-    ghost means = { tape_means };
-
-    ghost space = { tape_space };
-
-    ghost cost = { tape_cost };
+    ghost semantics = { tape };
 
     fn make_atom(&mut self, number: u32) -> Result<u32, StoreFault> {
         self.make(Shape::Atom(number), &[])
@@ -79,7 +74,9 @@ impl Store for Tape {
         self.bytes.len() - self.used
     }
 
-    ghost each_costs = { some_cost };
+    ghost each_costs = { λ t v. some_cost v };
 
     ghost each_fits = { λ t h v e. tape_handle t.used (vec_len t.bytes) t.bytes.items h v t.within t.small e };
+
+    ghost each_holds = { λ t h v e. t.held h v e };
 }

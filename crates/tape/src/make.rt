@@ -1,11 +1,12 @@
 // Making values on a tape.
 ghost use Rattle.std.specs.Prelude.{◌≡◌, ◌-◌, ◌≤◌, length, Some, vec_len};
 ghost use Rattle.model.specs.Trees.{Trees};
-ghost use Rattle.model.specs.Tape.{tape_cost, encode_all};
+ghost use Rattle.model.specs.Tape.{encode_all};
 ghost use Rattle.store.specs.Makers.{Makes};
 ghost use Rattle.tape.specs.Headers.{header_bytes, header_size, parts_after};
 ghost use Rattle.tape.specs.Making.{parts_on, HaveRoom};
-ghost use Rattle.tape.specs.Tapes.{bytes_of, tape_means, tape_space, to_make, Puts};
+ghost use Rattle.tape.specs.Held.{IsNumbered};
+ghost use Rattle.tape.specs.Tapes.{bytes_of, tape, to_make, Puts};
 
 use crate::header::{header_size, write_header};
 use crate::parts::{copy_to, parts_size};
@@ -18,7 +19,8 @@ impl Tape {
     pub(crate) fn make(&mut self, shape: Shape, parts: &[u32]) -> Result<u32, StoreFault>
         requires count { length parts.now ≡ parts_after shape }
         requires eight { length parts.now ≤ 8 }
-        ensures { Makes tape_means tape_space tape_cost self.old self.new (to_make self.old shape parts.now) result }
+        requires numbered { IsNumbered shape }
+        ensures { Makes tape self.old self.new (to_make self.old shape parts.now) result }
     {
         let size = header_size(shape) + parts_size(self.as_bytes(), parts)?;
         if self.bytes.len() - self.used < size {
@@ -33,7 +35,7 @@ impl Tape {
 
     // Writes a header into the free part.
     fn put_header(&mut self, shape: Shape)
-        requires { header_size shape ≤ tape_space self.old }
+        requires { header_size shape ≤ tape.space self.old }
         ensures { Puts self.old self.new self.old.used (header_bytes shape) }
     {
         write_header(&mut self.bytes[self.used..], shape);

@@ -3,4 +3,4 @@ use Rattle.store.specs.History.{Performed}
 use Rattle.store.proofs.history.perform.Given as goal
 
 abbrev pub invariant-loop-i : goal.invariant-loop-i
-invariant-loop-i g l = Performed g.S.Store.means g.S.Store.space g.S.Store.cost l.calls l.answers l.initial.store l.i l.store × (drop l.i l.answers ≡ drop l.i l.initial.answers)
+invariant-loop-i g l = Performed g.S.Store.semantics l.calls l.answers l.initial.store l.i l.store × (drop l.i l.answers ≡ drop l.i l.initial.answers)
