@@ -2,6 +2,7 @@
 use Rattle.std.proofs.Common.{◌≡◌, ℕ, ◌+◌, ◌-◌, ◌<◌, Bool, true, false, cond, T, eqb, leb, ◌⊎◌, ◌↔◌, List, [], ◌∷◌, map, length, sym, refl, ap, ◌∙◌, subst, inl, inr, arith, eqb→eq, length-append}
 use mathlib.Core.Option.{Option, none as nothing, some}
 use mathlib.Core.Path.{subst⁻¹}
+use Rattle.model.specs.Lists.{Every}
 use Rattle.model.specs.Trees.{Tree}
 use Rattle.model.specs.Deduction.{Party}
 use Rattle.model.specs.Roles.{Role}
@@ -11,10 +12,11 @@ use Rattle.model.specs.Holdings.{nothing_held, TermOf, ValueOf}
 use Rattle.model.specs.Specifications.{Specification, message, Duty, duties, life_on, life}
 use Rattle.model.specs.Programs.{nobody_yet, next_role, line, takes, names, Turn, Stage, turn_of, stage, stages_from, all_actions, all_makes}
 use Rattle.model.specs.Sessions.{View, State, Event, begin, say, hear, build, other, Answer, taken, declined, only, rest_of_stages, to_begin, to_say, to_hear, begins_next, in_turn, valid, gives, news, first_actions, went_on, put, concluded, machine_for, tried, counts_right, handled, call, after}
+use Rattle.model.specs.CountLaw.{CountsKept}
 use Rattle.model.specs.SessionLaw.{HoldsLife}
 use Rattle.model.proofs.Tests.{and_right}
 use Rattle.model.proofs.Lists.{every_join, every_map}
-use Rattle.model.proofs.Deduction.{derives_map}
+use Rattle.model.proofs.Deducible.{deducible_map}
 use Rattle.model.proofs.Machine.{eqb_iff}
 use Rattle.model.proofs.Exec.{exec, result_of, attempt_exec}
 use Rattle.model.proofs.Feeding.{fed_length}
@@ -22,6 +24,8 @@ use Rattle.model.proofs.Holdings.{value_more}
 use Rattle.model.proofs.Fitting.{Fitting}
 use Rattle.model.proofs.Living.{Living, living_on, living_holds}
 use Rattle.model.proofs.Counts.{stages_news}
+use Rattle.model.proofs.Counting.{Counts}
+use Rattle.model.proofs.CountLaw.{DutyCounted, next_counts}
 use Rattle.model.proofs.Doing.{duty_done}
 use Rattle.model.proofs.Attends.{Attends, AllAttend}
 use Rattle.model.proofs.Coming.{Comes, only_first, comes_next, not_say, not_hear}
@@ -51,6 +55,12 @@ module _ (S : Specification) (c : Tree → ℕ) where
   attends_stage r v a st k space vs ns many M' y =
       let P = S.party r in
       let z = duty_done (message S) P c k.duty a.role k.role' a.sheet v.holdings (record { mem = v.memory; space = space; inputs = vs; numbers = ns }) a.stands k.fit k.programmed M' y in
+      let counted : (A : ℕ → ℕ) → CountsKept A S → Counts A k.role' × Every (DutyCounted A P (message S)) k.later =
+      λ A kept.
+      let x = a.counts A kept in
+      let w = subst (Every (DutyCounted A P (message S))) k.first x.1 in
+      (next_counts A P (message S) k.duty a.role k.role' w.0 k.programmed x.0, w.1)
+      in
       record {
         role = k.role';
         left = k.later;
@@ -58,9 +68,10 @@ module _ (S : Specification) (c : Tree → ℕ) where
         fits = k.fits';
         sheet = z.0;
         stands = z.1;
-        says = every_join _ v.said _
-            (every_map _ _ (λ p d. derives_map P (ValueOf v.holdings) _ (value_more v.holdings (takes (message S) P k.duty) vs (names k.duty a.role k.role') ns) d) v.said a.says)
-            z.2;
+        counts = counted;
+        says = λ A kept. every_join _ v.said _
+            (every_map _ _ (λ p d. deducible_map A P (ValueOf v.holdings) _ (value_more v.holdings (takes (message S) P k.duty) vs (names k.duty a.role k.role') ns) d) v.said (a.says A kept))
+            (z.2 A (counted A kept).0.acts);
         knows = refl;
         there = inl (is_role r v a st k);
         living = living_on S r a.role k.role' vs ns M'.inputs M'.numbers v.holdings k.duty k.later

@@ -7,7 +7,7 @@ use Rattle.model.specs.Trees.{Head, tupled, crypted, applied, Tree, leaf, node, 
 use Rattle.model.specs.Deduction.{Party}
 use Rattle.model.specs.Roles.{Act, give, hear, say, same, make, split, unlock, Entry, Role, fill, enter, Composed, got, lacks, ComposedAll, got_all, lacks_one, compose, compose_all, none_made, knows, count, mark, marked, first_due, open_parts, open_text, check_again, settle_node, settle, settle_all, unsettled, settled, give_all, start, heard, Said, spoke, failed, say_composed, said}
 use Rattle.model.specs.Lives.{spoken}
-use Rattle.model.specs.Specifications.{Line, Specification, message_at, message, makes, Duty, begin, speak, listen, own_from, own}
+use Rattle.model.specs.Specifications.{Line, Specification, message_at, message, makes, Duty, begin, speak, listen, own_from, own, duties}
 use Rattle.model.specs.Programs.{nobody_yet, next_role, line, Stage, turn_of, stage, stages_from, line_of, rows_of, program}
 use Rattle.model.specs.CountLaw.{Parts, Declared, Counted, CountsKept, CountLaw}
 use Rattle.model.proofs.Marking.{is_every}
@@ -112,12 +112,12 @@ module _ (A : ℕ → ℕ) where
         go (lacks u) a = tt
 
     -- a duty whose terms keep to the counts
-    abbrev DutyCounted : (ℕ → Tree) → Duty → Type 0
+    abbrev pub DutyCounted : (ℕ → Tree) → Duty → Type 0
     DutyCounted term (begin ts) = Every (Declared A) ts
     DutyCounted term (speak l mk) = Declared A (term l)
     DutyCounted term (listen l) = Declared A (term l)
 
-    next_counts : (term : ℕ → Tree) (d : Duty) (s s' : Role) → DutyCounted term d → next_role term P d s ≡ some s' → Counts A s → Counts A s'
+    pub next_counts : (term : ℕ → Tree) (d : Duty) (s s' : Role) → DutyCounted term d → next_role term P d s ≡ some s' → Counts A s → Counts A s'
     next_counts term (begin ts) s s' c e k = subst (Counts A) (some_inj e) (start_counts ts c)
     next_counts term (listen l) s s' c e k = subst (Counts A) (some_inj e) (heard_counts (term l) s c k)
     next_counts term (speak l mk) s s' c e k = go (said P mk (term l) s) (said_counts mk (term l) s c k) e
@@ -136,6 +136,9 @@ module _ (A : ℕ → ℕ) where
         go (some s') e f =
             let k' = next_counts term d s s' c.0 e k in
             every_rows (Counted A) (line_of (turn_of d)) (line s s') (rows_of (stages_from term P s' ds)) (every_rest (Counted A) s.acts s'.acts k'.acts) (f s' k')
+
+  pub nobody_counts : Counts A nobody_yet
+  nobody_counts = record { terms = tt; acts = tt }
 
   -- every message, and so every duty
   message_counted : (xs : List Line) (k : ℕ) → Every (λ x. Declared A x.message) xs → Declared A (message_at xs k)
@@ -161,15 +164,15 @@ module _ (A : ℕ → ℕ) where
         go false true h = (any_message l, h)
         go false false h = h
 
-    program_counts : (r : ℕ) → Every (λ x. Counted A x.1) (program S r)
-    program_counts r = go (ltb r S.roles) (ltb→lt r S.roles)
+    pub duties_counted : (P : Party) (r : ℕ) → Every (DutyCounted P (message S)) (duties S r)
+    duties_counted P r = go (ltb r S.roles) (ltb→lt r S.roles)
       where
-        go : (b : Bool) → (T b → r < S.roles)
-            → Every (λ x. Counted A x.1) (rows_of (stages_from (message S) (S.party r) nobody_yet (cond b (begin (S.knows r) ∷ own S r) [])))
-        go true f =
-            stages_counts (S.party r) (message S) (begin (S.knows r) ∷ own S r) nobody_yet
-            (kept.starts r (f tt), own_counted (S.party r) r 1 S.lines) (record { terms = tt; acts = tt })
+        go : (b : Bool) → (T b → r < S.roles) → Every (DutyCounted P (message S)) (cond b (begin (S.knows r) ∷ own S r) [])
+        go true f = (kept.starts r (f tt), own_counted P r 1 S.lines)
         go false f = tt
+
+    program_counts : (r : ℕ) → Every (λ x. Counted A x.1) (program S r)
+    program_counts r = stages_counts (S.party r) (message S) (duties S r) nobody_yet (duties_counted (S.party r) r) nobody_counts
 
 pub count_law : CountLaw
 count_law A S kept r = program_counts A S kept r

@@ -53,6 +53,7 @@ pub mod Filled
 pub mod ProgramLaw
 pub mod Counting
 pub mod CountLaw
+pub mod Deducible
 -- sessions
 pub mod Doing
 pub mod Attends

@@ -9,7 +9,11 @@ use Rattle.model.proofs.Fair.{fair_goes}
 pub session_law : SessionLaw
 session_law S acc c space es =
     record {
-      derived = record { holds = λ r. attends_life S r (s.views r) (all r); in_registers = λ r q v. (all r).stands.values q v; in_says = λ r. (all r).says };
+      derived = record {
+        holds = λ r. attends_life S r (s.views r) (all r);
+        in_registers = λ A kept r q v. (all r).stands.values A ((all r).counts A kept).0.acts q v;
+        in_says = λ A kept r. (all r).says A kept;
+      };
       decided = decides S c s all;
       chosen = λ ρ. fair_goes S c ρ acc es space;
     }

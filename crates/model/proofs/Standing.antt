@@ -12,8 +12,11 @@ use Rattle.model.specs.Readings.{Reading}
 use Rattle.model.specs.Holdings.{Stock, nothing_held, add, TermOf, ValueOf, ReadsAs, Readable}
 use Rattle.model.specs.Programs.{nobody_yet}
 use Rattle.model.specs.Costs.{bills}
+use Rattle.model.specs.CountLaw.{Counted}
+use Rattle.model.specs.Deducible.{Deducible}
 use Rattle.model.proofs.Lists.{every_left, every_right, every_join, every_map, every_some, firsts_append}
 use Rattle.model.proofs.Deduction.{derives_map}
+use Rattle.model.proofs.Deducible.{deducible_map}
 use Rattle.model.proofs.Machine.{no_some, All, Below, ◌⊑◌}
 use Rattle.model.proofs.Exec.{exec}
 use Rattle.model.proofs.Sheets.{Plan, done, plan_append, plan_keeps, Facts, facts_join, facts_keep, Rel}
@@ -37,7 +40,7 @@ pub record Stands (P : Party) (s : Role) (Γ m : Memory) (h : Stock) : Type 0 wh
   pub filled : Rel Any Γ m
   pub facts : Facts m s.acts
   pub derives : All (λ r t. Derives P (TermOf h) t) Γ
-  pub values : All (λ r v. Derives P (ValueOf h) v) m
+  pub values : (A : ℕ → ℕ) → Every (Counted A) s.acts → All (λ r v. Deducible A P (ValueOf h) v) m
   pub holds : Every (λ p. Holds Γ m p.0 p.1) h.taken
   pub names : Every (λ p. Holds Γ m (leaf p.0) (leaf p.1)) h.made
   pub agrees : (k : Stock) (R : Tree → Tree) → Reading P (TermOf k) R → ((t : Tree) → TermOf h t → TermOf k t) → ReadsAs R h → Rel (λ t v. R t ≡ v) Γ m
@@ -52,7 +55,7 @@ module _ (P : Party) where
         filled = λ r t e. absurd (no_some e);
         facts = tt;
         derives = λ r t e. absurd (no_some e);
-        values = λ r t e. absurd (no_some e);
+        values = λ A q r v e. absurd (no_some e);
         holds = tt;
         names = tt;
         agrees = λ H R q f a r t e. absurd (no_some e);
@@ -137,10 +140,12 @@ module _ (P : Party) where
               (terms_in h is M.inputs ns M.numbers M'.inputs M'.numbers _ _ after.fed after.numbered)
               (names_in h is M.inputs ns M.numbers M'.inputs M'.numbers _ _ after.fed after.numbered)
               (λ r t x. derives_map P (TermOf h) (TermOf more_held) (term_more h is M.inputs ns M.numbers) (st.derives r t x));
-          values = plan_values P (ValueOf more_held) c w.grew.plan M M' e st.good.bound st.below st.filled
+          values = λ A q.
+              let z = subst (Every (Counted A)) w.grew.adds q in
+              plan_values A P (ValueOf more_held) c w.grew.plan (every_right (Counted A) s.acts w.grew.line z) M M' e st.good.bound st.below st.filled
               (values_in h is M.inputs ns M.numbers M'.inputs M'.numbers _ _ after.fed after.numbered)
               (numbers_in h is M.inputs ns M.numbers M'.inputs M'.numbers _ _ after.fed after.numbered)
-              (λ r t x. derives_map P (ValueOf h) (ValueOf more_held) (value_more h is M.inputs ns M.numbers) (st.values r t x));
+              (λ r t x. deducible_map A P (ValueOf h) (ValueOf more_held) (value_more h is M.inputs ns M.numbers) (st.values A (every_left (Counted A) s.acts w.grew.line z) r t x));
           holds = every_join _ h.taken (zip is M.inputs)
               (every_map _ (λ p. Holds w.sheet M'.mem p.0 p.1) (λ p a. (a.0, keep a.0 p.0 a.1, after.keeps a.0 p.1 a.2)) h.taken st.holds)
               (fed_pairs _ is M.inputs M'.inputs after.fed);

@@ -1,18 +1,31 @@
--- Every value in a register can be derived from the values that came in and the atoms made.
-use Rattle.std.proofs.Common.{◌≡◌, ℕ, List, [], ◌∷◌, subst}
+-- Every value in a register can be derived from the values that came in and the atoms made, where actions keep to the declared counts of parts.
+use Rattle.std.proofs.Common.{◌≡◌, ℕ, ◌+◌, List, [], ◌∷◌, length, ap, subst, arith}
+use mathlib.Core.Option.{some}
 use mathlib.Core.Path.{subst⁻¹}
-use Rattle.model.specs.Trees.{Tree, leaf, node}
-use Rattle.model.specs.Deduction.{Party, Derives, held, build, part, text}
-use Rattle.model.specs.Roles.{Act}
-use Rattle.model.specs.Runs.{Memory, Machine, ran}
-use Rattle.model.proofs.Machine.{ran_inj, All, all_set, all_puts, Below, Did, did}
+use Rattle.model.specs.Lists.{Every}
+use Rattle.model.specs.Trees.{Tree, leaf, node, Trees}
+use Rattle.model.specs.Deduction.{Party}
+use Rattle.model.specs.Roles.{Act, count}
+use Rattle.model.specs.Runs.{Memory, reads, Machine, ran}
+use Rattle.model.specs.CountLaw.{Parts, Counted}
+use Rattle.model.specs.Deducible.{Deducible, held, build, part, text}
+use Rattle.model.proofs.Machine.{some_inj, ran_inj, All, all_set, all_puts, Below, reads_parts, Did, did}
 use Rattle.model.proofs.Exec.{exec, ran_split}
 use Rattle.model.proofs.Sheets.{Move, gives, hears, news, says, sames, makes, splits, unlocks, Plan, done, then, move_keeps, Rel}
 use Rattle.model.proofs.Feeding.{Fed, fed_split, fed_rest}
 use Rattle.model.proofs.After.{Any, move_after}
 use Rattle.model.proofs.Agree.{reads_all}
 
-module _ (P : Party) (H : Tree → Type 0) where
+-- as many values as registers
+pub reads_count : (m : Memory) (rs : List ℕ) (vs : Trees) → reads m rs ≡ some vs → length rs ≡ count vs
+reads_count m [] vs e = ap count (some_inj e)
+reads_count m (r ∷ rs) vs e =
+    let x = reads_parts m r rs vs e in
+    let y = reads_count m rs x.1 x.3 in
+    let z : count vs ≡ 1 + count x.1 = ap count x.4 in
+    omega arith
+
+module _ (A : ℕ → ℕ) (P : Party) (H : Tree → Type 0) where
   abbrev In : {A : Type 0} → A → Tree → Type 0
   In t v = H v
 
@@ -20,7 +33,7 @@ module _ (P : Party) (H : Tree → Type 0) where
   Drawn a k = H (leaf k)
 
   abbrev pub Derivable : Memory → Type 0
-  Derivable m = All (λ r v. Derives P H v) m
+  Derivable m = All (λ r v. Deducible A P H v) m
 
   came : {A : Type 0} (t : A) (l rest : List Tree) (v : Tree) (vs : List Tree) → l ≡ v ∷ vs → Fed In (t ∷ []) l rest → H v
   came t l rest v vs e h = (subst (λ l. Fed In (t ∷ []) l rest) e h).0
@@ -29,30 +42,30 @@ module _ (P : Party) (H : Tree → Type 0) where
   drew a l rest k ks e h = (subst (λ l. Fed Drawn (a ∷ []) l rest) e h).0
 
   move_values : {n n' : ℕ} {Γ Γ' : Memory} {a : Act} {is : List Tree} {ns : List ℕ} → Move P n Γ a n' Γ' is ns
-      → (M M' : Machine) → Did a M M' → Fed In is M.inputs M'.inputs → Fed Drawn ns M.numbers M'.numbers
+      → Counted A a → (M M' : Machine) → Did a M M' → Fed In is M.inputs M'.inputs → Fed Drawn ns M.numbers M'.numbers
       → Derivable M.mem → Derivable M'.mem
-  move_values (gives {n} t) M M' d i j f =
+  move_values (gives {n} t) z M M' d i j f =
       subst⁻¹ (λ X. Derivable X.mem) d.3 (all_set _ M.mem n d.0 f (held (came t M.inputs M'.inputs d.0 d.1 d.2 i)))
-  move_values (hears {n} t) M M' d i j f =
+  move_values (hears {n} t) z M M' d i j f =
       subst⁻¹ (λ X. Derivable X.mem) d.3 (all_set _ M.mem n d.0 f (held (came t M.inputs M'.inputs d.0 d.1 d.2 i)))
-  move_values (news {n} b) M M' d i j f =
+  move_values (news {n} b) z M M' d i j f =
       subst⁻¹ (λ X. Derivable X.mem) d.4 (all_set _ M.mem n (leaf d.0) f (held (drew b M.numbers M'.numbers d.0 d.1 d.3 j)))
-  move_values (says e) M M' d i j f = subst⁻¹ (λ X. Derivable X.mem) d.2 f
-  move_values (sames e e') M M' d i j f = subst⁻¹ (λ X. Derivable X.mem) d.3 f
-  move_values (makes {n} {h = h} {rs = rs} e p s) M M' d i j f =
+  move_values (says e) z M M' d i j f = subst⁻¹ (λ X. Derivable X.mem) d.2 f
+  move_values (sames e e') z M M' d i j f = subst⁻¹ (λ X. Derivable X.mem) d.3 f
+  move_values (makes {n} {h = h} {rs = rs} e p s) z M M' d i j f =
       subst⁻¹ (λ X. Derivable X.mem) d.3
-      (all_set _ M.mem n (node h d.0) f (build p (reads_all (Derives P H) M.mem f rs d.0 d.2)))
-  move_values (splits {n} {h = h} {r = r} e p) M M' d i j f =
+      (all_set _ M.mem n (node h d.0) f (build p (subst (Parts A h) (reads_count M.mem rs d.0 d.2) z) (reads_all (Deducible A P H) M.mem f rs d.0 d.2)))
+  move_values (splits {n} {h = h} {r = r} e p) z M M' d i j f =
       subst⁻¹ (λ X. Derivable X.mem) d.3
-      (all_puts _ M.mem n d.0 f (λ q v l u k. part p (f r (node h d.0) d.2) k))
-  move_values (unlocks {n} {r = r} {q = q} e e') M M' d i j f =
+      (all_puts _ M.mem n d.0 f (λ q v l u k. part p (subst (Parts A h) d.1 z) (f r (node h d.0) d.2) k))
+  move_values (unlocks {n} {r = r} {q = q} e e') z M M' d i j f =
       subst⁻¹ (λ X. Derivable X.mem) d.4 (all_set _ M.mem n d.0 f (text (f r _ d.2) (f q d.1 d.3)))
 
   pub plan_values : (c : Tree → ℕ) {n n' : ℕ} {Γ Γ' : Memory} {xs : List Act} {is : List Tree} {ns : List ℕ} → Plan P n Γ xs n' Γ' is ns
-      → (M M' : Machine) → exec c xs M ≡ ran M' → Below n Γ → Below n M.mem → Rel Any Γ M.mem
+      → Every (Counted A) xs → (M M' : Machine) → exec c xs M ≡ ran M' → Below n Γ → Below n M.mem → Rel Any Γ M.mem
       → Fed In is M.inputs M'.inputs → Fed Drawn ns M.numbers M'.numbers → Derivable M.mem → Derivable M'.mem
-  plan_values c done M M' e g b f i j d = subst (λ X. Derivable X.mem) (ran_inj e) d
-  plan_values c (then {a = a} {rest = rest} {is = is} {js = js} {ns = ns} {ks = ks} m p) M M' e g b f i j d =
+  plan_values c done q M M' e g b f i j d = subst (λ X. Derivable X.mem) (ran_inj e) d
+  plan_values c (then {a = a} {rest = rest} {is = is} {js = js} {ns = ns} {ks = ks} m p) q M M' e g b f i j d =
       let x = ran_split c a rest M M' e in
       let s = did c a M x.0 x.1 in
       let y = move_after P m M x.0 s g b f in
@@ -60,6 +73,6 @@ module _ (P : Party) (H : Tree → Type 0) where
       let w = fed_split Drawn ns ks M.numbers M'.numbers j in
       let zi = fed_rest In _ is M.inputs z.0 x.0.inputs z.1 y.fed in
       let wi = fed_rest Drawn _ ns M.numbers w.0 x.0.numbers w.1 y.numbered in
-      plan_values c p x.0 M' x.2 (move_keeps P m g).1 y.below y.filled
+      plan_values c p q.1 x.0 M' x.2 (move_keeps P m g).1 y.below y.filled
       (subst (λ l. Fed In js l M'.inputs) zi z.2) (subst (λ l. Fed Drawn ks l M'.numbers) wi w.2)
-      (move_values m M x.0 s (subst (λ l. Fed In is M.inputs l) zi z.1) (subst (λ l. Fed Drawn ns M.numbers l) wi w.1) d)
+      (move_values m q.0 M x.0 s (subst (λ l. Fed In is M.inputs l) zi z.1) (subst (λ l. Fed Drawn ns M.numbers l) wi w.1) d)

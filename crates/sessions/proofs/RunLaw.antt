@@ -6,7 +6,7 @@ use mathlib.Core.Option.{Option, none as nothing, some}
 use mathlib.Core.Path.{subst⁻¹}
 use Rattle.model.specs.Lists.{Every, SomeOf}
 use Rattle.model.specs.Trees.{tupled, crypted, applied, Tree, leaf}
-use Rattle.model.specs.Deduction.{Derives}
+use Rattle.model.specs.Deducible.{Deducible}
 use Rattle.model.specs.Roles.{Entry}
 use Rattle.model.specs.Entries.{Has, Held}
 use Rattle.model.specs.Readings.{reading_of}
@@ -101,12 +101,12 @@ module _ {S : Type 0} (means : S → Meaning) (space : S → ℕ) (cost : Tree �
   module _ (small : (s : S) → Small (means s)) (H : List (Step S)) (s : S) (runs : List Run) (st : State) (a : Now H s runs st) where
     pub derived : Derived means space cost X H s runs
     derived = record {
-      in_registers = λ r q run v l e.
-          subst (λ z. Derives (X.party r) (ValueOf z) v) (stock_same means space cost X acc H s runs st a r)
-          ((a.attend r).stands.values q v (value_in (means s) (small s) (register (get_or runs r run).registers q) ((st.views r).memory q) ((a.stands.each r run l).memory q) v e));
-      in_says = λ r.
-          subst (λ z. Every (λ p. Derives (X.party r) (ValueOf (stock means X r H)) p.1) z) (a.tells r).said
-          (subst (λ z. Every (λ p. Derives (X.party r) (ValueOf z) p.1) (st.views r).said) (stock_same means space cost X acc H s runs st a r) (a.attend r).says);
+      in_registers = λ A kept r q run v l e.
+          subst (λ z. Deducible A (X.party r) (ValueOf z) v) (stock_same means space cost X acc H s runs st a r)
+          ((a.attend r).stands.values A ((a.attend r).counts A kept).0.acts q v (value_in (means s) (small s) (register (get_or runs r run).registers q) ((st.views r).memory q) ((a.stands.each r run l).memory q) v e));
+      in_says = λ A kept r.
+          subst (λ z. Every (λ p. Deducible A (X.party r) (ValueOf (stock means X r H)) p.1) z) (a.tells r).said
+          (subst (λ z. Every (λ p. Deducible A (X.party r) (ValueOf z) p.1) (st.views r).said) (stock_same means space cost X acc H s runs st a r) ((a.attend r).says A kept));
     }
 
     in_register : (r i : ℕ) (run : Run) (v : Tree) → r < length runs → (st.views r).memory i ≡ some v → means s (register (get_or runs r run).registers i) ≡ Some v

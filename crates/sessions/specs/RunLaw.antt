@@ -4,13 +4,15 @@ use Rattle.std.specs.declared.alloc.Global.{Global}
 use Rattle.std.proofs.Math.Option.{Option, none as nothing, some}
 use Rattle.model.specs.Lists.{Every, SomeOf}
 use Rattle.model.specs.Trees.{Tree, leaf}
-use Rattle.model.specs.Deduction.{Party, Derives}
+use Rattle.model.specs.Deduction.{Party}
 use Rattle.model.specs.Entries.{Has, Held}
 use Rattle.model.specs.Roles.{Entry, Role}
 use Rattle.model.specs.Readings.{reading_of}
 use Rattle.model.specs.Holdings.{nothing_held, add, TermOf, ValueOf, Readable}
 use Rattle.model.specs.Specifications.{Specification, message, Duty, begin, speak, listen, duties}
 use Rattle.model.specs.Programs.{nobody_yet, next_role}
+use Rattle.model.specs.CountLaw.{CountsKept}
+use Rattle.model.specs.Deducible.{Deducible}
 use Rattle.model.specs.SessionLaw.{costs}
 use Rattle.run.specs.declared.run.Run.{Run}
 use Rattle.run.specs.Faults.{run_fault_number}
@@ -87,11 +89,11 @@ module _ {S : Type 0} (means : S → Meaning) (space : S → ℕ) (cost : Tree �
   InTurn H (Same h k) = ⊥
   InTurn H Space = ⊥
 
-  -- each value in a role's registers, and each it said, can be derived from what it was given, made and heard
+  -- each value in a role's registers, and each it said, can be derived from what it was given, made and heard, each function with its declared number of parts
   pub record Derived (H : List (Step S)) (s : S) (runs : List Run) : Type 0 where
-    pub in_registers : (r q : ℕ) (run : Run) (v : Tree) → r < length runs → means s (register (slice_index_or runs r run).registers q) ≡ Some v
-        → Derives (X.party r) (ValueOf (stock means X r H)) v
-    pub in_says : (r : ℕ) → Every (λ p. Derives (X.party r) (ValueOf (stock means X r H)) p.1) (lines_said means X r H)
+    pub in_registers : (declared : ℕ → ℕ) → CountsKept declared X → (r q : ℕ) (run : Run) (v : Tree) → r < length runs
+        → means s (register (slice_index_or runs r run).registers q) ≡ Some v → Deducible declared (X.party r) (ValueOf (stock means X r H)) v
+    pub in_says : (declared : ℕ → ℕ) → CountsKept declared X → (r : ℕ) → Every (λ p. Deducible declared (X.party r) (ValueOf (stock means X r H)) p.1) (lines_said means X r H)
 
   -- each term that it was given, heard or made is known, and the register of each known term holds a value
   pub record Holding (H : List (Step S)) (s : S) (runs : List Run) : Type 0 where
