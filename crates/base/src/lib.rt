@@ -1,6 +1,8 @@
 // What all layers share: the refusals that they answer.
 #![tactic(auto)]
 
+mod memory;
 mod refusal;
 
+pub use crate::memory::{NoMemory, boxed, push};
 pub use crate::refusal::{Cause, Layer, Refusal};

@@ -115,7 +115,7 @@ module _ (text : List ℕ) where
   one_answer (Ok t) (Ok u) a b = ap (λ x. Ok x) (b.only t a.spells)
   one_answer (Ok t) (Err (Limit q)) a b = absurd (whole_exceeds t q a b)
   one_answer (Ok t) (Err (Broken q)) a b = absurd (whole_broken t q a b)
-  one_answer (Ok t) (Err NoMemory) a b = absurd b
+  one_answer (Ok t) (Err (NoMemory w)) a b = absurd b
   one_answer (Err (Limit p)) (Ok u) a b = absurd (whole_exceeds u p b a)
   one_answer (Err (Limit p)) (Err (Limit q)) a b = elim (cases_order p q) [
     | inl e ↦ ap (λ x. Err (Limit x)) e
@@ -123,7 +123,7 @@ module _ (text : List ℕ) where
     | inr (inr l) ↦ absurd (exceeds_first q p l b a)
   ]
   one_answer (Err (Limit p)) (Err (Broken q)) a b = absurd (breaks_exceeds q p b a)
-  one_answer (Err (Limit p)) (Err NoMemory) a b = absurd b
+  one_answer (Err (Limit p)) (Err (NoMemory w)) a b = absurd b
   one_answer (Err (Broken p)) (Ok u) a b = absurd (whole_broken u p b a)
   one_answer (Err (Broken p)) (Err (Limit q)) a b = absurd (breaks_exceeds p q a b)
   one_answer (Err (Broken p)) (Err (Broken q)) a b = elim (cases_order p q) [
@@ -131,8 +131,8 @@ module _ (text : List ℕ) where
     | inr (inl l) ↦ absurd (breaks_first p q l a b)
     | inr (inr l) ↦ absurd (breaks_first q p l b a)
   ]
-  one_answer (Err (Broken p)) (Err NoMemory) a b = absurd b
-  one_answer (Err NoMemory) r a b = absurd a
+  one_answer (Err (Broken p)) (Err (NoMemory w)) a b = absurd b
+  one_answer (Err (NoMemory w)) r a b = absurd a
 
   pub decided : (o : Result Tree TextFault) → Obeys text o → o ≡ reading text
   decided o h = one_answer o (reading text) h (law text)

@@ -94,7 +94,7 @@ module _ (text : List ℕ) where
       let n = xs_length in
       breaks p (omega arith) o
   short_law h (Err (Limit p)) o = exceeds p o
-  short_law h (Err NoMemory) o = o
+  short_law h (Err (NoMemory w)) o = o
 
   long_law : 65535 < length text → (r : Result Tree TextFault) → Outcome 0 (between before) xs r → Obeys text (too_long r)
   long_law h (Ok t) o =
@@ -115,7 +115,7 @@ module _ (text : List ℕ) where
           let k : p ≡ 65536 = omega arith in
           let a : take o.taken xs ≡ xs = ap (λ m. take m xs) e ∙ same_front 65536 (omega arith) in
           too_far h (subst Begins a o.begins) (λ more u s. subst (λ m. FitsBefore m u) k (o.fits more u (subst (λ ys. Text (ys ++ more) u) (sym a) s)))
-  long_law h (Err NoMemory) o = o
+  long_law h (Err (NoMemory w)) o = o
 
   pub law : Obeys text (reading text)
   law = go (leb (length text) 65535) refl
@@ -132,7 +132,7 @@ module _ (text : List ℕ) where
   lawful (Ok n) e = subst (Obeys text) e law
   lawful (Err (Broken p)) e = subst (Obeys text) e law
   lawful (Err (Limit p)) e = subst (Obeys text) e law
-  lawful (Err NoMemory) e = tt
+  lawful (Err (NoMemory w)) e = tt
 
 -- What a tree within the limits cannot be refused for.
 shallow_of : (ms ns : List (ℕ × ℕ)) (n : ℕ × ℕ) → Shallow (ms ++ (n ∷ ns)) → n.1 ≤ 32
@@ -163,13 +163,13 @@ module _ (text : List ℕ) (t : Tree) (s : Text text t) where
         | inl o ↦ inl (o (drop (p + 1) text) t (front_text text (p + 1) t s))
         | inr o ↦ let e = o.0 in inr (e, omega arith)
       ]
-  known (Err NoMemory) k = tt
+  known (Err (NoMemory w)) k = tt
 
   accepted : Fits (nodes 1 t) → length text ≤ 65535 → (r : Result Node TextFault) → Known text t r → Accepted t r
   accepted f l (Ok n) k = k
   accepted f l (Err (Broken p)) k = k
   accepted f l (Err (Limit p)) k = ⊎_elim (λ o. fits_passes p t f o) (λ o. let w = o.1 in omega arith) k
-  accepted f l (Err NoMemory) k = tt
+  accepted f l (Err (NoMemory w)) k = tt
 
 pub accepts : (text : List ℕ) (r : Result Node TextFault) → Answers (reading text) r → Accepts text r
 accepts text r a =

@@ -43,12 +43,12 @@ module _ (xs ys : List ℕ) (same : ys ≡ xs) (start at to : ℕ) (fs : List Fr
 pub ends_err : (e : TextFault) → Ends (Err e) (Err e)
 ends_err (Limit at) = refl
 ends_err (Broken at) = refl
-ends_err NoMemory = tt
+ends_err (NoMemory w) = tt
 
 pub turns_err : (q : Result Point TextFault) (e : TextFault) (os : List OpenBracket) (n : ℕ) → Turns q (Err e) os n → Ends q (Err e)
 turns_err q (Limit at) os n h = h
 turns_err q (Broken at) os n h = h
-turns_err q NoMemory os n h = tt
+turns_err q (NoMemory w) os n h = tt
 
 pub turns_some : (q : Result Point TextFault) (r : Option Node) (n : Node) (os : List OpenBracket) (k : ℕ) → r ≡ Some n → Turns q (Ok r) os k → Ends q (Ok n)
 turns_some q r n os k e h = subst (λ o. Turns q (Ok o) os k) e h
@@ -133,7 +133,7 @@ cut_answers o (Err (Broken at)) e = go (ltb at 65536) (ap too_long e)
     go : (b : Bool) → too_long o ≡ cond b (Err (Broken at)) (Err (Limit 65535)) → Answers (too_long o) (Err (cond b (Broken at) (Limit 65535)))
     go true h = h
     go false h = h
-cut_answers o (Err NoMemory) e = tt
+cut_answers o (Err (NoMemory w)) e = tt
 
 pub short_answers : (text : List ℕ) (r : Result Node TextFault) → length text ≤ 65535 → Answers (read text) r → Answers (reading text) r
 short_answers text r l h = subst (λ o. Answers o r) (sym (cond-true (leb (length text) 65535) (read text) (too_long (read (take 65536 text))) (le-leb (length text) 65535 l))) h

@@ -50,7 +50,7 @@ abbrev pub Outcome : ℕ → State → List ℕ → Result Tree TextFault → Ty
 Outcome at s bs (Ok T) = WholeFrom at s bs T
 Outcome at s bs (Err (Broken p)) = BrokenFrom at s bs p
 Outcome at s bs (Err (Limit p)) = LimitFrom at s bs p
-Outcome at s bs (Err NoMemory) = ⊥
+Outcome at s bs (Err (NoMemory w)) = ⊥
 
 seen_before : (s : State) → Fits (seen s) → (z : Spot) (T : Tree) → Completes s z T → FitsBefore z.place T
 seen_before s f z T h =
@@ -124,7 +124,7 @@ module _ (at b : ℕ) (s s' : State) (on : (bs : List ℕ) (T : Tree) → Comple
         begins = (o.begins.0, o.begins.1, back (take (suc o.taken) bs ++ o.begins.0) o.begins.1 o.begins.2, o.begins.3);
         passes = λ more T h. o.passes more T (on (take (suc o.taken) bs ++ more) T h);
       }
-  longer bs (Err NoMemory) o = absurd o
+  longer bs (Err (NoMemory w)) o = absurd o
 
 shallow_append : (ms ns : Nodes) → Shallow (ms ++ ns) → Shallow ns
 shallow_append [] ns h = h

@@ -99,7 +99,7 @@ abbrev pub Obeys : List ℕ → Result Tree TextFault → Type 0
 Obeys text (Ok t) = Spelled text t
 Obeys text (Err (Broken p)) = Breaks text p
 Obeys text (Err (Limit p)) = Exceeds text p
-Obeys text (Err NoMemory) = ⊥
+Obeys text (Err (NoMemory w)) = ⊥
 
 -- The law leaves one answer: that of the definition.
 abbrev pub Decided : List ℕ → Type 0
@@ -110,21 +110,21 @@ abbrev pub Lawful : List ℕ → Result Node TextFault → Type 0
 Lawful text (Ok node) = Obeys text (Ok (tree_of node))
 Lawful text (Err (Broken p)) = Obeys text (Err (Broken p))
 Lawful text (Err (Limit p)) = Obeys text (Err (Limit p))
-Lawful text (Err NoMemory) = Unit {0}
+Lawful text (Err (NoMemory w)) = Unit {0}
 
 -- A text that spells a tree is answered with its root, unless a node or the length passes a limit; it is never broken.
 abbrev pub Known : List ℕ → Tree → Result Node TextFault → Type 0
 Known text t (Ok node) = tree_of node ≡ t
 Known text t (Err (Broken p)) = ⊥
 Known text t (Err (Limit p)) = Passes p t ⊎ ((p ≡ 65535) × (65535 < length text))
-Known text t (Err NoMemory) = Unit {0}
+Known text t (Err (NoMemory w)) = Unit {0}
 
 -- Nothing within the limits is refused.
 abbrev pub Accepted : Tree → Result Node TextFault → Type 0
 Accepted t (Ok node) = tree_of node ≡ t
 Accepted t (Err (Broken p)) = ⊥
 Accepted t (Err (Limit p)) = ⊥
-Accepted t (Err NoMemory) = Unit {0}
+Accepted t (Err (NoMemory w)) = Unit {0}
 
 pub record Accepts (text : List ℕ) (r : Result Node TextFault) : Type 0 where
   pub spelled : (t : Tree) → Text text t → Known text t r

@@ -25,7 +25,7 @@ abbrev pub too_long : Result Tree TextFault → Result Tree TextFault
 too_long (Ok t) = Err (Limit 65535)
 too_long (Err (Limit at)) = Err (Limit at)
 too_long (Err (Broken at)) = cond (nat_lt at 65536) (Err (Broken at)) (Err (Limit 65535))
-too_long (Err NoMemory) = Err NoMemory
+too_long (Err (NoMemory w)) = Err (NoMemory w)
 
 -- A text has at most 65,535 bytes.
 abbrev pub reading : List ℕ → Result Tree TextFault
@@ -36,11 +36,11 @@ abbrev pub Answers : Result Tree TextFault → Result Node TextFault → Type 0
 Answers o (Ok node) = o ≡ Ok (tree_of node)
 Answers o (Err (Limit at)) = o ≡ Err (Limit at)
 Answers o (Err (Broken at)) = o ≡ Err (Broken at)
-Answers o (Err NoMemory) = Unit {0}
+Answers o (Err (NoMemory w)) = Unit {0}
 
 -- The fault of a text that was cut to its first 65,536 bytes.
 abbrev pub cut : Result Node TextFault → TextFault
 cut (Ok node) = Limit 65535
 cut (Err (Limit at)) = Limit at
 cut (Err (Broken at)) = cond (nat_lt at 65536) (Broken at) (Limit 65535)
-cut (Err NoMemory) = NoMemory
+cut (Err (NoMemory w)) = NoMemory w

@@ -11,4 +11,4 @@ use Rattle.text.specs.declared.fault.TextFault.TheVariants as text
 abbrev pub text_refusal : TextFault → Option Refusal
 text_refusal (text.Limit at) = refuse causes.Limit Text at
 text_refusal (text.Broken at) = refuse causes.Broken Text at
-text_refusal text.NoMemory = None
+text_refusal (text.NoMemory w) = None

@@ -44,14 +44,14 @@ Turns q (Ok (Some n)) os begun = q ≡ Ok (after (tree_of n))
 Turns q (Ok None) os begun = (q ≡ Ok (level (frames os))) × (begun ≡ count (frames os))
 Turns q (Err (Limit at)) os begun = q ≡ Err (Limit at)
 Turns q (Err (Broken at)) os begun = q ≡ Err (Broken at)
-Turns q (Err NoMemory) os begun = Unit {0}
+Turns q (Err (NoMemory w)) os begun = Unit {0}
 
 -- The same, of all the steps to the term's end.
 abbrev pub Ends : Result Point TextFault → Result Node TextFault → Type 0
 Ends q (Ok n) = q ≡ Ok (after (tree_of n))
 Ends q (Err (Limit at)) = q ≡ Err (Limit at)
 Ends q (Err (Broken at)) = q ≡ Err (Broken at)
-Ends q (Err NoMemory) = Unit {0}
+Ends q (Err (NoMemory w)) = Unit {0}
 
 -- Reading a text from `at` on comes to `to`, at a point, or ends with a fault.
 abbrev pub Leads : List ℕ → ℕ → Point → ℕ → Result Point TextFault → Type 0

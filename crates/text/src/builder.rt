@@ -11,7 +11,8 @@ use crate::fault::TextFault;
 use crate::node::Node;
 use crate::part::Part;
 use crate::token::Token;
-use std::alloc::{AllocError, Global};
+use base::{NoMemory, push};
+use std::alloc::Global;
 
 // how many nodes a text has at most
 const MOST_NODES: usize = 4096;
@@ -87,19 +88,15 @@ impl Builder {
 
     // A bracket, whose parts are to come.
     #[tactic(auto, using(crate::proofs::Building::frames_push), unfolding(crate::specs::Reading::count, crate::specs::Trees::size))]
-    fn enter(&mut self, at: usize, symbol: Part) -> Result<(), AllocError>
+    fn enter(&mut self, at: usize, symbol: Part) -> Result<(), NoMemory>
         requires counted { self.old.begun ≡ count (frames self.old.brackets.items) }
         requires room { self.old.begun < 4096 }
         ensures entered { OnOk result (frames self.new.brackets.items ≡ record { at = at; symbol = symbol; parts = none } ∷ frames self.old.brackets.items) }
         ensures counted { OnOk result (self.new.begun ≡ count (frames self.new.brackets.items)) }
     {
         self.begun += 1;
-        self.brackets.push(Open {
-            at,
-            symbol,
-            parts: Vec::new(self.heap),
-        })?;
-        Ok(())
+        let parts = Vec::new(self.heap);
+        push(&mut self.brackets, Open { at, symbol, parts })
     }
 
     // The end of the innermost bracket, by a byte at `end`.
@@ -122,7 +119,7 @@ impl Builder {
         let Some(bracket) = self.brackets.last_mut() else {
             return Ok(Some(node));
         };
-        bracket.parts.push(node)?;
+        push(&mut bracket.parts, node)?;
         Ok(None)
     }
 }

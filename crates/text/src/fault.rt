@@ -1,10 +1,9 @@
 // Why a text was not read.
 ghost use Rattle.std.specs.Prelude.{◌≡◌};
-ghost use Rattle.text.specs.declared.fault.TextFault.TheVariants.{NoMemory};
+ghost use Rattle.text.specs.declared.fault.TextFault.TheVariants as faults;
 ghost use Rattle.text.specs.Refusals.{text_refusal};
 
-use base::{Cause, Layer, Refusal};
-use std::alloc::{AllocError, AllocFailed};
+use base::{Cause, Layer, NoMemory, Refusal};
 
 #[derive(Clone, Copy, PartialEq, Eq, Debug)]
 pub enum TextFault {
@@ -12,7 +11,8 @@ pub enum TextFault {
     Limit { at: usize },
     // no text goes on like this: the length of the longest beginning that some text continues
     Broken { at: usize },
-    NoMemory,
+    // only a failed allocation gives this
+    NoMemory(NoMemory),
 }
 
 impl TextFault {
@@ -23,7 +23,7 @@ impl TextFault {
         let (cause, place) = match *self {
             TextFault::Limit { at } => (Cause::Limit, at),
             TextFault::Broken { at } => (Cause::Broken, at),
-            TextFault::NoMemory => return None,
+            TextFault::NoMemory(_) => return None,
         };
         Some(Refusal {
             cause,
@@ -33,19 +33,10 @@ impl TextFault {
     }
 }
 
-// `?` asks for these of each type of error.
-impl<T: Drop> From<AllocFailed<T>> for TextFault {
-    ghost from_gives = { λ _ r. r ≡ NoMemory };
+impl From<NoMemory> for TextFault {
+    ghost from_gives = { λ e r. r ≡ faults.NoMemory e };
 
-    fn from(_refused: AllocFailed<T>) -> TextFault {
-        TextFault::NoMemory
-    }
-}
-
-impl From<AllocError> for TextFault {
-    ghost from_gives = { λ _ r. r ≡ NoMemory };
-
-    fn from(_error: AllocError) -> TextFault {
-        TextFault::NoMemory
+    fn from(lack: NoMemory) -> TextFault {
+        TextFault::NoMemory(lack)
     }
 }

@@ -1,0 +1,32 @@
+// Want of memory, and the calls that can meet it.
+ghost use Rattle.std.specs.Prelude.{◌≡◌, ◌++◌, ◌∷◌, [], ◌+◌, if◌then◌else◌, is_ok, vec_len, IfOk};
+
+use std::alloc::Global;
+
+/// Memory was asked for, and there was none. Only the calls of this file make one, and only where an allocation failed: a fault that
+/// holds one cannot be answered for another reason.
+#[derive(Clone, Copy, PartialEq, Eq, Debug)]
+pub struct NoMemory {
+    seen: (),
+}
+
+/// An item is added at the end of a list. The list is as it was where memory lacks.
+pub fn push<T: Drop>(list: &mut Vec<T>, item: T) -> Result<(), NoMemory>
+    ensures items { list.new.items ≡ (if is_ok result then list.old.items ++ item ∷ [] else list.old.items) }
+    ensures len { vec_len list.new ≡ (if is_ok result then vec_len list.old + 1 else vec_len list.old) }
+{
+    match list.push(item) {
+        Ok(()) => Ok(()),
+        Err(_) => Err(NoMemory { seen: () }),
+    }
+}
+
+/// A value is put into memory of its own.
+pub fn boxed<T: Drop>(heap: Global, value: T) -> Result<Box<T>, NoMemory>
+    ensures { IfOk result (λ b. b.value ≡ value) }
+{
+    match Box::new(heap, value) {
+        Ok(value) => Ok(value),
+        Err(_) => Err(NoMemory { seen: () }),
+    }
+}
