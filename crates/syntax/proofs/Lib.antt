@@ -1,5 +1,4 @@
 pub mod Chains
-pub mod Collected
 pub mod Forms
 pub mod Inner
 pub mod Parts

@@ -1,37 +1,54 @@
--- Terms that are read part by part.
-use Rattle.std.proofs.Common.{◌≡◌, ℕ, ◌+◌, ◌<◌, ◌≤◌, List, [], ◌∷◌, ◌++◌, length, get_or, drop, Ok, Err, ap, sym, ◌∙◌, append-nil, append_assoc}
+-- Nodes that are read one by one, each value behind those before it.
+use Rattle.std.proofs.Common.{◌≡◌, ℕ, ◌+◌, ◌<◌, ◌≤◌, List, [], ◌∷◌, ◌++◌, length, get_or, drop, map, Ok, Err, ap, sym, refl, ◌∙◌, append-nil, append_assoc}
 use Rattle.std.proofs.lemmas.List.{at_drop_more, at_drop_all}
 use Rattle.text.specs.declared.node.Node.{Node}
 use Rattle.text.specs.Nodes.{tree_of, trees_of}
+use Rattle.text.specs.Trees.{Tree, Trees, none, more}
 use Rattle.syntax.specs.declared.fault.ShapeFault.{ShapeFault}
-use Rattle.syntax.specs.declared.spec.Term.{Term}
-use Rattle.syntax.specs.Shape.{and_then, term, terms}
+use Rattle.syntax.specs.Shape.{Shaped, and_then, each, term, terms}
 use Rattle.syntax.specs.Specs.{more as and_term}
 use Rattle.syntax.specs.Views.{term_of, terms_of}
 
-module _ (text : List ℕ) (nodes : List Node) where
-  -- What follows for all the nodes from what is said of those from the i-th on, with these values before them.
-  pub record Rest (i : ℕ) (xs : List Term) : Type 0 where
-    pub ok : (ys : List Term) → terms text (trees_of (drop i nodes)) ≡ Ok (terms_of ys) → terms text (trees_of nodes) ≡ Ok (terms_of (xs ++ ys))
-    pub err : (f : ShapeFault) → terms text (trees_of (drop i nodes)) ≡ Err f → terms text (trees_of nodes) ≡ Err f
+module _ {T A L : Type 0} (one : Tree → Shaped A) (all : Trees → Shaped L) (view : T → A) (views : List T → L) where
+  -- What is answered for all is what is answered for each, joined.
+  pub record ByOne : Type 0 where
+    pub join : A → L → L
+    pub nothing : all none ≡ Ok (views [])
+    pub further : (t : Tree) (ts : Trees) → all (more t ts) ≡ and_then (one t) (λ a. and_then (all ts) (λ l. Ok (join a l)))
+    pub joined : (x : T) (xs : List T) → views (x ∷ xs) ≡ join (view x) (views xs)
 
-  next : (i : ℕ) (d : Node) → i < length nodes → terms text (trees_of (drop i nodes)) ≡ and_then (term text (tree_of (get_or nodes i d))) (λ a. and_then (terms text (trees_of (drop (i + 1) nodes))) (λ l. Ok (and_term a l)))
-  unfolding terms
-  next i d h = at_drop_more (λ ns. terms text (trees_of ns)) nodes i d h
+  module _ (nodes : List Node) where
+    -- What follows for all the nodes from what is said of those from the i-th on, with these values before them.
+    pub record Rest (i : ℕ) (xs : List T) : Type 0 where
+      pub ok : (ys : List T) → all (trees_of (drop i nodes)) ≡ Ok (views ys) → all (trees_of nodes) ≡ Ok (views (xs ++ ys))
+      pub err : (f : ShapeFault) → all (trees_of (drop i nodes)) ≡ Err f → all (trees_of nodes) ≡ Err f
 
-  module _ (i : ℕ) (xs : List Term) (r : Rest i xs) where
-    module _ (d : Node) (h : i < length nodes) where
-      pub rest_more : (x : Term) → term text (tree_of (get_or nodes i d)) ≡ Ok (term_of x) → Rest (i + 1) (xs ++ x ∷ [])
-      rest_more x q =
-          let here = next i d h ∙ ap (λ o. and_then o (λ a. and_then (terms text (trees_of (drop (i + 1) nodes))) (λ l. Ok (and_term a l)))) q in
-          record {
-            ok = λ ys p. r.ok (x ∷ ys) (here ∙ ap (λ o. and_then o (λ l. Ok (and_term (term_of x) l))) p) ∙ ap (λ zs. Ok (terms_of zs)) (sym (append_assoc xs (x ∷ []) ys));
-            err = λ f p. r.err f (here ∙ ap (λ o. and_then o (λ l. Ok (and_term (term_of x) l))) p);
-          }
+    module _ (b : ByOne) (i : ℕ) (xs : List T) (r : Rest i xs) where
+      module _ (d : Node) (h : i < length nodes) where
+        next : all (trees_of (drop i nodes)) ≡ and_then (one (tree_of (get_or nodes i d))) (λ a. and_then (all (trees_of (drop (i + 1) nodes))) (λ l. Ok (b.join a l)))
+        next = at_drop_more (λ ns. all (trees_of ns)) nodes i d h ∙ b.further (tree_of (get_or nodes i d)) (trees_of (drop (i + 1) nodes))
 
-      pub rest_refused : (f : ShapeFault) → term text (tree_of (get_or nodes i d)) ≡ Err f → terms text (trees_of nodes) ≡ Err f
-      rest_refused f q = r.err f (next i d h ∙ ap (λ o. and_then o (λ a. and_then (terms text (trees_of (drop (i + 1) nodes))) (λ l. Ok (and_term a l)))) q)
+        pub rest_more : (x : T) → one (tree_of (get_or nodes i d)) ≡ Ok (view x) → Rest (i + 1) (xs ++ x ∷ [])
+        rest_more x q =
+            let here = next ∙ ap (λ o. and_then o (λ a. and_then (all (trees_of (drop (i + 1) nodes))) (λ l. Ok (b.join a l)))) q in
+            record {
+              ok = λ ys p. r.ok (x ∷ ys) (here ∙ ap (λ o. and_then o (λ l. Ok (b.join (view x) l))) p ∙ ap Ok (sym (b.joined x ys))) ∙ ap (λ zs. Ok (views zs)) (sym (append_assoc xs (x ∷ []) ys));
+              err = λ f p. r.err f (here ∙ ap (λ o. and_then o (λ l. Ok (b.join (view x) l))) p);
+            }
 
-    pub rest_none : length nodes ≤ i → terms text (trees_of nodes) ≡ Ok (terms_of xs)
-    unfolding terms
-    rest_none h = r.ok [] (at_drop_all (λ ns. terms text (trees_of ns)) nodes i h) ∙ ap (λ ys. Ok (terms_of ys)) (append-nil xs)
+        pub rest_refused : (f : ShapeFault) → one (tree_of (get_or nodes i d)) ≡ Err f → all (trees_of nodes) ≡ Err f
+        rest_refused f q = r.err f (next ∙ ap (λ o. and_then o (λ a. and_then (all (trees_of (drop (i + 1) nodes))) (λ l. Ok (b.join a l)))) q)
+
+      pub rest_none : length nodes ≤ i → all (trees_of nodes) ≡ Ok (views xs)
+      rest_none h = r.ok [] (at_drop_all (λ ns. all (trees_of ns)) nodes i h ∙ b.nothing) ∙ ap (λ ys. Ok (views ys)) (append-nil xs)
+
+    pub rest_start : Rest 0 []
+    rest_start = record { ok = λ ys p. p; err = λ f p. p }
+
+pub by_term : (text : List ℕ) → ByOne (term text) (terms text) term_of terms_of
+unfolding terms
+by_term text = record { join = and_term; nothing = refl; further = λ t ts. refl; joined = λ x xs. refl }
+
+pub by_each : {T A : Type 0} (one : Tree → Shaped A) (view : T → A) → ByOne one (each one) view (map view)
+unfolding each
+by_each one view = record { join = λ a l. a ∷ l; nothing = refl; further = λ t ts. refl; joined = λ x xs. refl }

@@ -12,4 +12,4 @@ shape_refusal (shape.Limit p) = refuse causes.Limit Shape p
 shape_refusal (shape.Misfit p) = refuse causes.Misfit Shape p
 shape_refusal (shape.NotCarried p) = refuse causes.NotCarried Shape p
 shape_refusal (shape.NoName p) = refuse causes.NoName Shape p
-shape_refusal shape.NoMemory = None
+shape_refusal (shape.NoMemory w) = None

@@ -1,11 +1,11 @@
 -- What a node shows, and what the steps of the shape's check answer.
-use Rattle.std.specs.Prelude.{◌≡◌, ◌≢◌, ℕ, true, false, List, Some, Ok, Err, codes, Result}
+use Rattle.std.specs.Prelude.{◌≡◌, ℕ, Bool, true, false, List, Some, Ok, Err, codes, Result}
 use Prim.Native.String.{String}
 use Rattle.text.specs.declared.part.Part.{Part}
 use Rattle.text.specs.Nodes.{trees_of}
 use Rattle.text.specs.Trees.{Tree, quoted, integer, bracket, Trees, none, more}
 use Rattle.syntax.specs.declared.fault.ShapeFault.{ShapeFault}
-use Rattle.syntax.specs.declared.fault.ShapeFault.TheVariants.{Misfit, NotCarried, NoName, NoMemory}
+use Rattle.syntax.specs.declared.fault.ShapeFault.TheVariants.{Limit, Misfit, NotCarried, NoName, NoMemory}
 use Rattle.syntax.specs.declared.source.Bracket.{Bracket}
 use Rattle.syntax.specs.declared.source.Headed.{Headed}
 use Rattle.syntax.specs.declared.source.Item.{Item}
@@ -73,9 +73,17 @@ headed text at (more f ts) = at_most 8 at ts (and_then (a_name text f) (λ n. Ok
 abbrev pub headed_by : Headed → Name × Trees
 headed_by h = (h.name, trees_of h.rest.now)
 
+-- Want of memory is no refusal.
+abbrev pub is_refusal : ShapeFault → Bool
+is_refusal (Limit at) = true
+is_refusal (Misfit at) = true
+is_refusal (NotCarried at) = true
+is_refusal (NoName at) = true
+is_refusal (NoMemory w) = false
+
 -- The fault is this answer's, want of memory aside.
 abbrev pub Refuses : {A : Type 0} → ShapeFault → Shaped A → Type 0
-Refuses f o = f ≢ NoMemory → o ≡ Err f
+Refuses f o = is_refusal f ≡ true → o ≡ Err f
 
 -- The answer, by its view, or its fault.
 abbrev pub Gives : {A B : Type 0} → (B → A) → Shaped A → Result B ShapeFault → Type 0

@@ -3,8 +3,7 @@ ghost use Rattle.std.specs.Prelude.{◌≡◌};
 ghost use Rattle.syntax.specs.Refusals.{shape_refusal};
 ghost use Rattle.syntax.specs.declared.fault.ShapeFault.TheVariants as shape_faults;
 
-use base::{Cause, Layer, Refusal};
-use std::alloc::{AllocError, AllocFailed};
+use base::{Cause, Layer, NoMemory, Refusal};
 
 // The tree has no shape of a specification. The place is the node's first byte.
 #[derive(Clone, Copy, PartialEq, Eq, Debug)]
@@ -17,7 +16,8 @@ pub enum ShapeFault {
     NotCarried { at: usize },
     // a quoted text that is no name
     NoName { at: usize },
-    NoMemory,
+    // only a failed allocation gives this
+    NoMemory(NoMemory),
 }
 
 impl ShapeFault {
@@ -30,7 +30,7 @@ impl ShapeFault {
             ShapeFault::Misfit { at } => (Cause::Misfit, at),
             ShapeFault::NotCarried { at } => (Cause::NotCarried, at),
             ShapeFault::NoName { at } => (Cause::NoName, at),
-            ShapeFault::NoMemory => return None,
+            ShapeFault::NoMemory(_) => return None,
         };
         Some(Refusal {
             cause,
@@ -40,19 +40,10 @@ impl ShapeFault {
     }
 }
 
-// `?` asks for these of each type of error.
-impl<T: Drop> From<AllocFailed<T>> for ShapeFault {
-    ghost from_gives = { λ _ r. r ≡ shape_faults.NoMemory };
+impl From<NoMemory> for ShapeFault {
+    ghost from_gives = { λ e r. r ≡ shape_faults.NoMemory e };
 
-    fn from(_refused: AllocFailed<T>) -> ShapeFault {
-        ShapeFault::NoMemory
-    }
-}
-
-impl From<AllocError> for ShapeFault {
-    ghost from_gives = { λ _ r. r ≡ shape_faults.NoMemory };
-
-    fn from(_error: AllocError) -> ShapeFault {
-        ShapeFault::NoMemory
+    fn from(lack: NoMemory) -> ShapeFault {
+        ShapeFault::NoMemory(lack)
     }
 }

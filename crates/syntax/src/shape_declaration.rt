@@ -9,16 +9,18 @@ use crate::fault::ShapeFault;
 use crate::source::{Bracket, Headed, Item, Source, short};
 use crate::spec::{Declaration, Name};
 use crate::symbol::{FunctionClass, Symbol};
+use base::push;
 use text::node::Node;
 
 impl Source<'_> {
     pub(crate) fn declarations(self, parts: &[Node]) -> Result<Vec<Declaration>, ShapeFault>
         ensures { seeing.Gives (λ ds. map declared_of ds.items) (shape.declarations self.entry.text.now (trees_of parts.now)) result }
     {
-        parts
-            .iter()
-            .map(|part| self.declaration(part))
-            .try_collect(self.heap)
+        let mut declarations = Vec::new(self.heap);
+        for part in parts {
+            push(&mut declarations, self.declaration(part)?)?;
+        }
+        Ok(declarations)
     }
 
     fn declaration(self, node: &Node) -> Result<Declaration, ShapeFault>
@@ -99,10 +101,11 @@ impl Source<'_> {
     fn names(self, parts: &[Node]) -> Result<Vec<Name>, ShapeFault>
         ensures { seeing.Gives (λ ns. ns.items) (shape.names self.entry.text.now (trees_of parts.now)) result }
     {
-        parts
-            .iter()
-            .map(|part| self.name(part))
-            .try_collect(self.heap)
+        let mut names = Vec::new(self.heap);
+        for part in parts {
+            push(&mut names, self.name(part)?)?;
+        }
+        Ok(names)
     }
 
     // Starting knowledge of one party.

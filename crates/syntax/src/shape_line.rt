@@ -9,16 +9,18 @@ use crate::fault::ShapeFault;
 use crate::source::{Bracket, Item, Source, short};
 use crate::spec::{Label, Line};
 use crate::symbol::Symbol;
+use base::push;
 use text::node::Node;
 
 impl Source<'_> {
     pub(crate) fn lines(self, parts: &[Node]) -> Result<Vec<Line>, ShapeFault>
         ensures { seeing.Gives (λ ls. map line_of ls.items) (shape.lines self.entry.text.now (trees_of parts.now)) result }
     {
-        parts
-            .iter()
-            .map(|part| self.line(part))
-            .try_collect(self.heap)
+        let mut lines = Vec::new(self.heap);
+        for part in parts {
+            push(&mut lines, self.line(part)?)?;
+        }
+        Ok(lines)
     }
 
     // A line; a block within a block is not carried.

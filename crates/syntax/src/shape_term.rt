@@ -9,6 +9,7 @@ use crate::fault::ShapeFault;
 use crate::source::{Bracket, Headed, Item, MOST_PARTS, Source, short};
 use crate::spec::Term;
 use crate::symbol::Symbol;
+use base::{boxed, push};
 use text::node::Node;
 
 impl Source<'_> {
@@ -35,7 +36,7 @@ impl Source<'_> {
     {
         let mut terms = Vec::new(self.heap);
         for part in parts {
-            terms.push(self.term(part)?)?;
+            push(&mut terms, self.term(part)?)?;
         }
         Ok(terms)
     }
@@ -59,8 +60,8 @@ impl Source<'_> {
         let [text, key, mark] = parts else {
             return Err(ShapeFault::Misfit { at });
         };
-        let text = Box::new(self.heap, self.term(text)?)?;
-        let key = Box::new(self.heap, self.term(key)?)?;
+        let text = boxed(self.heap, self.term(text)?)?;
+        let key = boxed(self.heap, self.term(key)?)?;
         self.vanilla(mark)?;
         Ok(Term::Crypt { at, text, key })
     }

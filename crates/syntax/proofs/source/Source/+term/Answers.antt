@@ -3,10 +3,10 @@ use Rattle.std.proofs.lemmas.Result.{err_from_is_err_and}
 use Rattle.text.specs.Nodes.{tree_of, trees_of}
 use Rattle.syntax.specs.declared.symbol.Symbol.TheVariants as symbols
 use Rattle.syntax.specs.Seeing.{Stands}
-use Rattle.syntax.specs.Shape.{term}
-use Rattle.syntax.specs.Views.{term_of}
+use Rattle.syntax.specs.Shape.{term, terms}
+use Rattle.syntax.specs.Views.{term_of, terms_of}
 use Rattle.syntax.proofs.Chains.{term_stands, term_other, term_refused}
-use Rattle.syntax.proofs.Rest.{rest_more, rest_refused, rest_none}
+use Rattle.syntax.proofs.Rest.{rest_more, rest_refused, rest_none, by_term}
 use Rattle.syntax.proofs.Forms.{gives_path}
 use Rattle.syntax.proofs.Parts.{at_most_so, at_most_not}
 use Rattle.syntax.proofs.Terming.{size_bracket, size_at, size_rest, name_term, number_term, apply_headed, not_three, crypt_so, view-Tuple, view-Apply, view-Crypt}
@@ -58,7 +58,7 @@ ciphertext-returns-in_err-vanilla t c =
 pub ciphertext-returns : goal.ciphertext-returns
 ciphertext-returns t c =
     let three = crypt_so c.args.self.text.now c.args.at c.args.parts.now c.text-item.result c.key-item.result c.mark-item.result (omega arith) c.text-item.is c.key-item.is c.mark-item.is in
-    three ∙ rw (c.in_ok-term.ensures, c.in_ok-term-2.ensures, ← c.in_ok-vanilla.ensures, view-Crypt c.args.at c.in_ok-text.text c.in_ok-key.key, c.in_ok-text.ensures.ok, c.in_ok-key.ensures.ok) refl
+    three ∙ rw (c.in_ok-term.ensures, c.in_ok-term-2.ensures, ← c.in_ok-vanilla.ensures, view-Crypt c.args.at c.in_ok-text.text c.in_ok-key.key, c.in_ok-text.ensures, c.in_ok-key.ensures) refl
 
 pub term-returns-in_err-name : goal.term-returns-in_err-name
 term-returns-in_err-name t c =
@@ -120,14 +120,14 @@ terms-term-requires t c = (omega (arith, size_at c.args.parts.now c.loop-part.pa
 pub terms-returns-in_err-term : goal.terms-returns-in_err-term
 terms-returns-in_err-term t c =
     let p = err_from_is_err_and c.from_residual.result c.from_residual.ensures.1 in
-    rw (p.1, p.2) (λ n. rest_refused c.args.self.text.now c.args.parts.now c.loop-part.part-index c.loop-part.terms.items c.loop-part.invariant c.part-item.result c.loop-part-test.true c.in_err-term.field-0.0 (ap (λ i. term c.args.self.text.now (tree_of i)) (sym c.part-item.is) ∙ c.in_err-term.ensures n))
+    rw (p.1, p.2) (λ n. rest_refused (term c.args.self.text.now) (terms c.args.self.text.now) term_of terms_of c.args.parts.now (by_term c.args.self.text.now) c.loop-part.part-index c.loop-part.terms.items c.loop-part.invariant c.part-item.result c.loop-part-test.true c.in_err-term.field-0.0 (ap (λ i. term c.args.self.text.now (tree_of i)) (sym c.part-item.is) ∙ c.in_err-term.ensures n))
 
 pub terms-loop-part-preserved : goal.terms-loop-part-preserved
 terms-loop-part-preserved t c =
-    rw c.in_ok-push.ensures.items (rest_more c.args.self.text.now c.args.parts.now c.loop-part.part-index c.loop-part.terms.items c.loop-part.invariant c.part-item.result c.loop-part-test.true c.in_ok-term.field-0 (ap (λ i. term c.args.self.text.now (tree_of i)) (sym c.part-item.is) ∙ c.in_ok-term.ensures))
+    rw c.in_ok-push.ensures.items (rest_more (term c.args.self.text.now) (terms c.args.self.text.now) term_of terms_of c.args.parts.now (by_term c.args.self.text.now) c.loop-part.part-index c.loop-part.terms.items c.loop-part.invariant c.part-item.result c.loop-part-test.true c.in_ok-term.field-0 (ap (λ i. term c.args.self.text.now (tree_of i)) (sym c.part-item.is) ∙ c.in_ok-term.ensures))
 
 pub terms-returns : goal.terms-returns
-terms-returns t c = rest_none c.args.self.text.now c.args.parts.now c.loop-part.part-index c.loop-part.terms.items c.loop-part.invariant c.loop-part-test.false
+terms-returns t c = rest_none (term c.args.self.text.now) (terms c.args.self.text.now) term_of terms_of c.args.parts.now (by_term c.args.self.text.now) c.loop-part.part-index c.loop-part.terms.items c.loop-part.invariant c.loop-part-test.false
 
 pub tuple-returns-then-parts-gt-MOST_PARTS : goal.tuple-returns-then-parts-gt-MOST_PARTS
 tuple-returns-then-parts-gt-MOST_PARTS t c = λ _. at_most_not c.args.at 8 c.args.parts.now _ (omega arith)

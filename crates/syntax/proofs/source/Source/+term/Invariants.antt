@@ -1,6 +1,8 @@
 use Rattle.std.proofs.Common.{◌+◌, ◌*◌}
 use Rattle.text.specs.Nodes.{tree_of, trees_of}
 use Rattle.text.specs.Trees.{size, sizes}
+use Rattle.syntax.specs.Shape.{term, terms}
+use Rattle.syntax.specs.Views.{term_of, terms_of}
 use Rattle.syntax.proofs.Rest.{Rest}
 use Rattle.syntax.proofs.source.Source.+term.Given as goal
 
@@ -20,4 +22,4 @@ abbrev pub decreases-application : goal.decreases-application
 decreases-application l = 3 * sizes (trees_of l.parts.now) + 2
 
 abbrev pub invariant-terms-loop-part : goal.invariant-terms-loop-part
-invariant-terms-loop-part l = Rest l.self.text.now l.parts l.part-index l.terms.items
+invariant-terms-loop-part l = Rest (term l.self.text.now) (terms l.self.text.now) term_of terms_of l.parts l.part-index l.terms.items

@@ -1,12 +1,21 @@
-use Rattle.std.proofs.Common.{rules}
+use Rattle.std.proofs.Common.{map, Ok, sym, ap, ◌∙◌}
+use Rattle.std.proofs.lemmas.Result.{err_from_is_err_and}
+use Rattle.text.specs.Nodes.{tree_of}
+use Rattle.syntax.specs.Shape.{a_name, each, names}
 use Rattle.std.proofs.lemmas.List.{map-id}
-use Rattle.syntax.specs.Shape.{a_name, names}
-use Rattle.syntax.proofs.Collected.{collected}
-use Rattle.syntax.proofs.Forms.{gives_view}
+use Rattle.syntax.proofs.Rest.{rest_more, rest_refused, rest_none, by_each}
 use Rattle.syntax.proofs.source.Source.names.Goals as goal
+
+pub returns-in_err-name : goal.returns-in_err-name
+unfolding names
+returns-in_err-name c =
+    let p = err_from_is_err_and c.from_residual.result c.from_residual.ensures.1 in
+    rw (p.1, p.2) (λ n. rest_refused (a_name c.args.self.text.now) (each (a_name c.args.self.text.now)) (λ n. n) (map (λ n. n)) c.args.parts.now (by_each (a_name c.args.self.text.now) (λ n. n)) c.loop-part.part-index c.loop-part.names.items c.loop-part.invariant c.part-item.result c.loop-part-test.true c.in_err-name.field-0.0 (ap (λ i. a_name c.args.self.text.now (tree_of i)) (sym c.part-item.is) ∙ sym c.in_err-name.ensures))
+
+pub loop-part-preserved : goal.loop-part-preserved
+loop-part-preserved c =
+    rw c.in_ok-push.ensures.items (rest_more (a_name c.args.self.text.now) (each (a_name c.args.self.text.now)) (λ n. n) (map (λ n. n)) c.args.parts.now (by_each (a_name c.args.self.text.now) (λ n. n)) c.loop-part.part-index c.loop-part.names.items c.loop-part.invariant c.part-item.result c.loop-part-test.true c.in_ok-name.field-0 (ap (λ i. a_name c.args.self.text.now (tree_of i)) (sym c.part-item.is) ∙ sym c.in_ok-name.ensures))
 
 pub returns : goal.returns
 unfolding names
-returns c =
-    gives_view _ c.try_collect.result (λ ns. map-id ns.items)
-    (collected (a_name c.args.self.text.now) (λ n. n) c.args.parts.now c.try_collect.result (search rules) c.try_collect.ensures.err (λ f p m. (p.2.0, (search rules, λ n. search rules, λ k n l. search rules))))
+returns c = rest_none (a_name c.args.self.text.now) (each (a_name c.args.self.text.now)) (λ n. n) (map (λ n. n)) c.args.parts.now (by_each (a_name c.args.self.text.now) (λ n. n)) c.loop-part.part-index c.loop-part.names.items c.loop-part.invariant c.loop-part-test.false ∙ ap Ok (map-id c.loop-part.names.items)
