@@ -6,7 +6,8 @@ ghost use Rattle.program.specs.Checked.{AreFilled, is_ready, Fills, Steps, span_
 use crate::action::{Action, Row};
 use crate::marks::Marks;
 use crate::parts::Parts;
-use std::alloc::{AllocError, Global};
+use base::NoMemory;
+use std::alloc::Global;
 
 // registers have numbers up to 65,535; an opening may fill 255 from there on
 const REGISTERS: usize = 65791;
@@ -19,7 +20,7 @@ pub(crate) struct Filled {
 }
 
 impl Filled {
-    pub(crate) fn new(heap: Global) -> Result<Filled, AllocError>
+    pub(crate) fn new(heap: Global) -> Result<Filled, NoMemory>
         ensures { IfOk result (λ f. AreFilled f.marks []) }
     {
         Ok(Filled {

@@ -2,7 +2,8 @@
 ghost use Rattle.std.specs.Prelude.{◌≡◌, true, false, replicate, IfOk, slice_index_or, slice_set};
 ghost use Rattle.program.specs.Marked.{marked_all};
 
-use std::alloc::{AllocError, Global};
+use base::{NoMemory, repeated};
+use std::alloc::Global;
 use std::marker::Model;
 
 #[derive(Drop)]
@@ -20,11 +21,11 @@ impl Model for Marks {
 
 impl Marks {
     // None of the numbers is marked.
-    pub fn new(heap: Global, count: usize) -> Result<Marks, AllocError>
+    pub fn new(heap: Global, count: usize) -> Result<Marks, NoMemory>
         ensures { IfOk result (λ m. m ≡ replicate count false) }
     {
         Ok(Marks {
-            marks: vec![in heap; false; count]?,
+            marks: repeated(heap, false, count)?,
         })
     }
 

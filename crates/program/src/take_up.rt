@@ -1,26 +1,28 @@
 // Taking up rows as a program.
 ghost use Rattle.std.specs.Prelude.{◌≡◌};
-ghost use Rattle.program.specs.declared.take_up.ProgramFault.TheVariants.{NoMemory};
+ghost use Rattle.program.specs.declared.take_up.ProgramFault.TheVariants as faults;
 ghost use Rattle.program.specs.Held.{CheckLaw};
 ghost use Rattle.program.specs.TakenUp.{Holds, TakesUp, Checks};
 
 use crate::action::Row;
 use crate::check::Filled;
 use crate::held::Program;
-use std::alloc::{AllocError, Global};
+use base::NoMemory;
+use std::alloc::Global;
 
 #[derive(Clone, Copy, PartialEq, Eq, Debug)]
 pub enum ProgramFault {
     // the rows do not pass the check
     Unsound,
-    NoMemory,
+    // only a failed allocation gives this
+    NoMemory(NoMemory),
 }
 
-impl From<AllocError> for ProgramFault {
-    ghost from_gives = { λ _ fault. fault ≡ NoMemory };
+impl From<NoMemory> for ProgramFault {
+    ghost from_gives = { λ e fault. fault ≡ faults.NoMemory e };
 
-    fn from(_error: AllocError) -> ProgramFault {
-        ProgramFault::NoMemory
+    fn from(lack: NoMemory) -> ProgramFault {
+        ProgramFault::NoMemory(lack)
     }
 }
 

@@ -34,7 +34,7 @@ fn run_of<'a>(heap: Global, rows: &'a [Row], counts: &'a [u8]) -> Result<Run<'a>
 {
     match Program::from_rows(heap, rows, counts) {
         Ok(program) => Run::new(heap, program),
-        Err(ProgramFault::NoMemory) => Err(AllocError),
+        Err(ProgramFault::NoMemory(_)) => Err(AllocError),
         Err(ProgramFault::Unsound) => unreachable!(),
     }
 }
