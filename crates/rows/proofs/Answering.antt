@@ -62,17 +62,20 @@ module _ (es : List Entry) where
   text_of_row (Compound kinds.Crypt (x ∷ (y ∷ []))) w = refl
   text_of_row (Compound kinds.Crypt (x ∷ (y ∷ (z ∷ ks)))) w = refl
 
-  text_there : (r : Row) (t k : ℕ) → IsOfFirst es r → text_and_key r ≡ Some (t, k) → t < length es
-  text_there (Atom n) t k f e = absurd (cc)
-  text_there (Compound kinds.Tuple ps) t k f e = absurd (cc)
-  text_there (Compound (kinds.Apply g) ps) t k f e = absurd (cc)
-  text_there (Compound kinds.Crypt []) t k f e = absurd (cc)
-  text_there (Compound kinds.Crypt (x ∷ [])) t k f e = absurd (cc)
-  text_there (Compound kinds.Crypt (x ∷ (y ∷ []))) t k f e =
+  pub two_there : (r : Row) (t k : ℕ) → IsOfFirst es r → text_and_key r ≡ Some (t, k) → (t < length es) × (k < length es)
+  two_there (Atom n) t k f e = absurd (cc)
+  two_there (Compound kinds.Tuple ps) t k f e = absurd (cc)
+  two_there (Compound (kinds.Apply g) ps) t k f e = absurd (cc)
+  two_there (Compound kinds.Crypt []) t k f e = absurd (cc)
+  two_there (Compound kinds.Crypt (x ∷ [])) t k f e = absurd (cc)
+  two_there (Compound kinds.Crypt (x ∷ (y ∷ []))) t k f e =
       let p : ◌≡◌ {A = ℕ × ℕ} (x, y) (t, k) = cc in
       let q : x ≡ t = ap (λ (x : ℕ × ℕ). x.0) p in
-      let h = f 0 0 (omega arith) in omega (arith, h.0)
-  text_there (Compound kinds.Crypt (x ∷ (y ∷ (z ∷ ks)))) t k f e = absurd (cc)
+      let o : y ≡ k = ap (λ (x : ℕ × ℕ). x.1) p in
+      let h = f 0 0 (omega arith) in
+      let i = f 1 0 (omega arith) in
+      (omega (arith, h.0), omega (arith, i.0))
+  two_there (Compound kinds.Crypt (x ∷ (y ∷ (z ∷ ks)))) t k f e = absurd (cc)
 
   pub unlock_some : (r : Row) (h j t k key : ℕ) → IsOfFirst es r → meaning es h ≡ Some (row_value (values es) r) → meaning es j ≡ Some (value_at es key)
       → text_and_key r ≡ Some (t, k) → eq_tree (value_at es k) (value_at es key) ≡ true → Answers (meaning es) (unlocked_value (meaning es h) (meaning es j)) (Ok t)
@@ -80,4 +83,4 @@ module _ (es : List Entry) where
       let p = text_of_row r (value_at es key) ∙ ap (behind (value_at es key)) e ∙ ap (λ b. if b then Some (value_at es t) else None) q in
       subst⁻¹ (λ o. Answers (meaning es) (unlocked_value o (meaning es j)) (Ok t)) m
       (subst⁻¹ (λ o. Answers (meaning es) (unlocked_value (Some (row_value (values es) r)) o) (Ok t)) n
-      (subst⁻¹ (λ o. Answers (meaning es) (ok_or o Mismatch) (Ok t)) p (some_row es t (text_there r t k f e))))
+      (subst⁻¹ (λ o. Answers (meaning es) (ok_or o Mismatch) (Ok t)) p (some_row es t (two_there r t k f e).0)))

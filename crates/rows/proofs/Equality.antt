@@ -1,20 +1,19 @@
 -- Going down rows to compare their values.
-use Rattle.std.proofs.Common.{◌≡◌, ◌≢◌, ℕ, suc, ◌<◌, ◌≤◌, max, false, true, ◌&&◌, List, [], ◌∷◌, length, get_or, refl, sym, ap, ap₂, ◌∙◌, subst, arith}
+use Rattle.std.proofs.Common.{◌≡◌, ◌≢◌, ℕ, suc, ◌+◌, ◌<◌, ◌≤◌, max, Bool, T, false, true, ◌&&◌, List, [], ◌∷◌, length, drop, get_or, refl, sym, ap, ap₂, ◌∙◌, subst, arith}
 use Rattle.std.proofs.Flags.{T_true}
 use Rattle.std.proofs.Math.Bool.{and-false, and-true}
-use Rattle.std.proofs.lemmas.List.{get_or_default}
+use Rattle.std.proofs.lemmas.List.{get_or_default, at_drop_more}
 use Rattle.std.proofs.lemmas.List.Recursion.{max_bounds, max_least}
 use Rattle.std.specs.List.{All}
 use Rattle.model.specs.Trees.{Tree, leaf, eq_tree, eq_trees}
-use Rattle.model.proofs.Trees.{is_eq_tree}
+use Rattle.model.proofs.Trees.{eq_tree_is, is_eq_tree}
 use Rattle.rows.specs.declared.entry.Row.{Row}
 use Rattle.rows.specs.declared.entry.Row.TheVariants.{Atom, Compound}
 use Rattle.rows.specs.declared.entry.Entry.{Entry}
 use Rattle.rows.specs.Rows.{values_at, row_value, values}
-use Rattle.rows.specs.Classes.{parts_of, row_at, class_at, value_at, Classed, Earlier, IsRow}
+use Rattle.rows.specs.Classes.{place_of, parts_of, row_at, class_at, value_at, Classed, Earlier, IsRow}
 use Rattle.rows.specs.Answered.{alike}
 use Rattle.rows.proofs.Finding.{value_at_row}
-use Rattle.rows.proofs.Asking.{class_first}
 
 -- above all of some numbers
 abbrev pub above : List ℕ → ℕ
@@ -42,11 +41,25 @@ module _ (vs : List Tree) where
       let b = eq_tree (get_or vs p (leaf 0)) (get_or vs q (leaf 0)) in
       ap (λ c. b && c) (other_count ps qs (λ e. d (ap suc e))) ∙ and-false b
 
+  -- parts with equal values are passed
+  pub parts_ahead : (ps qs : List ℕ) (i : ℕ) → i < length ps → i < length qs → eq_tree (get_or vs (get_or ps i 0) (leaf 0)) (get_or vs (get_or qs i 0) (leaf 0)) ≡ true
+      → eq_trees (values_at vs (drop i ps)) (values_at vs (drop i qs)) ≡ eq_trees (values_at vs (drop (i + 1) ps)) (values_at vs (drop (i + 1) qs))
+  parts_ahead ps qs i l m e =
+      at_drop_more (λ ks. eq_trees (values_at vs ks) (values_at vs (drop i qs))) ps i 0 l
+      ∙ at_drop_more (λ ks. eq_trees (values_at vs (get_or ps i 0 ∷ drop (i + 1) ps)) (values_at vs ks)) qs i 0 m
+      ∙ ap (λ b. b && eq_trees (values_at vs (drop (i + 1) ps)) (values_at vs (drop (i + 1) qs))) e
+
 module _ (es : List Entry) (classed : Classed es) where
-  pub of_one_class : (j k : ℕ) → j < length es → k < length es → class_at es j ≡ class_at es k → eq_tree (value_at es j) (value_at es k) ≡ true
-  of_one_class j k a b e =
-      T_true (eq_tree (value_at es j) (value_at es k))
-      (is_eq_tree (value_at es j) (value_at es k) (sym (class_first es classed j a).1 ∙ ap (value_at es) e ∙ (class_first es classed k b).1))
+  pub of_one_row : (j k : ℕ) → j ≡ k → eq_tree (value_at es j) (value_at es k) ≡ true
+  of_one_row j k e = T_true (eq_tree (value_at es j) (value_at es k)) (is_eq_tree (value_at es j) (value_at es k) (ap (value_at es) e))
+
+  -- two first rows have unlike values
+  pub of_two_firsts : (j k : ℕ) → j < length es → k < length es → class_at es j ≡ j → class_at es k ≡ k → j ≢ k → eq_tree (value_at es j) (value_at es k) ≡ false
+  of_two_firsts j k a b c d n = go (eq_tree (value_at es j) (value_at es k)) (eq_tree_is (value_at es j) (value_at es k))
+    where
+      go : (x : Bool) → (T x → value_at es j ≡ value_at es k) → x ≡ false
+      go true f = absurd (n (sym c ∙ classed j a ∙ ap (λ v. place_of v (values es)) (f tt) ∙ sym (classed k b) ∙ d))
+      go false f = refl
 
   module _ (earlier : Earlier es) where
     pub eq_at : (j k : ℕ) (r s : Row) → j < length es → k < length es → r ≡ row_at es j → s ≡ row_at es k

@@ -11,10 +11,10 @@ use program::kind::Kind;
 use store::shape::Shape;
 
 impl Row {
-    pub(crate) fn shape(self) -> Shape
-        ensures { (vs : List Tree) → result ≡ shape_of (row_value vs self) }
+    pub(crate) fn shape(&self) -> Shape
+        ensures { (vs : List Tree) → result ≡ shape_of (row_value vs self.now) }
     {
-        match self {
+        match *self {
             Row::Atom(number) => Shape::Atom(number),
             Row::Compound { kind, parts } => {
                 let parts = parts.as_slice().len() as u8;
@@ -28,8 +28,8 @@ impl Row {
     }
 
     // One of the parts that can be asked for.
-    pub(crate) fn part(self, index: usize) -> Option<u16>
-        ensures { result ≡ slice_get (asked_parts self) index }
+    pub(crate) fn part(&self, index: usize) -> Option<u16>
+        ensures { result ≡ slice_get (asked_parts self.now) index }
     {
         match self {
             Row::Atom(_) => None,
@@ -41,14 +41,14 @@ impl Row {
     }
 
     // The text and the key of a ciphertext.
-    pub(crate) fn text_and_key(self) -> Option<(u16, u16)>
-        ensures { result ≡ text_and_key self }
+    pub(crate) fn text_and_key(&self) -> Option<(u16, u16)>
+        ensures { result ≡ text_and_key self.now }
     {
         match self {
             Row::Atom(_) => None,
             Row::Compound { kind, parts } => {
                 let parts = parts.as_slice();
-                if kind == Kind::Crypt && parts.len() == 2 {
+                if *kind == Kind::Crypt && parts.len() == 2 {
                     return Some((parts[0], parts[1]));
                 }
                 None
@@ -60,9 +60,9 @@ impl Row {
     pub(crate) fn is_like(&self, other: &Row) -> bool
         ensures { result ≡ alike self.now other.now }
     {
-        match (*self, *other) {
-            (Row::Atom(number), Row::Atom(other)) => number == other,
-            (Row::Compound { kind, .. }, Row::Compound { kind: other, .. }) => kind == other,
+        match (self, other) {
+            (Row::Atom(number), Row::Atom(other)) => *number == *other,
+            (Row::Compound { kind, .. }, Row::Compound { kind: other, .. }) => *kind == *other,
             _ => false,
         }
     }

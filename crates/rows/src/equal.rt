@@ -8,23 +8,29 @@ ghost use Rattle.rows.specs.Classes.{IsRow, value_at};
 use crate::rows::Rows;
 
 impl Rows {
-    // Whether two rows have equal values. Rows of one class have, so only where values differ are parts gone into.
-    #[cycle(equal_equal_parts)]
+    /// Whether two rows have equal values: a recursion on the rows that they name, which are earlier ones.
+    ///
+    /// It goes one row down at most. The parts of a row are first rows, each the first with its value, and two first rows have equal
+    /// values only if they are one; so a call for two parts answers without another.
+    #[cycle(equality)]
     pub(crate) fn equal(&self, left: usize, right: usize) -> bool
         requires left { IsRow self.now.entries.items left }
         requires right { IsRow self.now.entries.items right }
         ensures { result ≡ eq_tree (value_at self.now.entries.items left) (value_at self.now.entries.items right) }
     {
-        let left = self.entry(left);
-        let right = self.entry(right);
-        if left.class == right.class {
+        if left == right {
             return true;
         }
-        left.row.is_like(&right.row) && self.equal_parts(left.row.parts(), right.row.parts())
+        let one = self.entry(left);
+        let other = self.entry(right);
+        if one.class as usize == left && other.class as usize == right {
+            return false;
+        }
+        one.row.is_like(&other.row) && self.equal_parts(one.row.parts(), other.row.parts())
     }
 
-    // Whether rows have the values of other rows, each in its place.
-    #[cycle(equal_equal_parts)]
+    // Whether rows have the values of other rows, each in its place: those with unlike numbers are gone into.
+    #[cycle(equality)]
     fn equal_parts(&self, left: &[u16], right: &[u16]) -> bool
         requires left { All (IsRow self.now.entries.items) left.now }
         requires right { All (IsRow self.now.entries.items) right.now }
@@ -34,7 +40,8 @@ impl Rows {
             return false;
         }
         for (place, part) in left.iter().enumerate() {
-            if !self.equal(*part as usize, right[place] as usize) {
+            let other = right[place];
+            if *part != other && !self.equal(*part as usize, other as usize) {
                 return false;
             }
         }

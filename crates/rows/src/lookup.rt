@@ -13,15 +13,12 @@ use program::parts::Parts;
 use store::fault::StoreFault;
 
 impl Rows {
-    // A row by its number; past the end there is a blank.
-    pub(crate) fn entry(&self, number: usize) -> Entry
-        ensures { result ≡ entry_at self.now.entries.items number }
+    // A row by its number.
+    pub(crate) fn entry(&self, number: usize) -> &Entry
+        requires { IsRow self.now.entries.items number }
+        ensures { result.now ≡ entry_at self.now.entries.items number }
     {
-        self.entries.get(number).copied().unwrap_or(Entry {
-            row: Row::Atom(0),
-            class: 0,
-            next: 0,
-        })
+        &self.entries[number]
     }
 
     // The class of a row that is to be added: the number of the first row with its value, or the count of rows.
@@ -53,12 +50,12 @@ impl Rows {
     }
 
     // The row of a handle.
-    pub(crate) fn row(&self, handle: u32) -> Result<Row, StoreFault>
+    pub(crate) fn row(&self, handle: u32) -> Result<&Row, StoreFault>
         ensures { MatchResult result
-            (λ r. IsOfFirst self.now.entries.items r × (meaning self.now.entries.items handle ≡ Some (row_value (values self.now.entries.items) r)))
+            (λ r. IsOfFirst self.now.entries.items r.now × (meaning self.now.entries.items handle ≡ Some (row_value (values self.now.entries.items) r.now)))
             (λ e. (e ≡ Invalid) × (meaning self.now.entries.items handle ≡ None)) }
     {
-        Ok(self.entry(self.number(handle)?).row)
+        Ok(&self.entry(self.number(handle)?).row)
     }
 
     // The first row with the value of a handle.

@@ -12,15 +12,15 @@ loop-at-init c =
 
 pub returns-then-eq : goal.returns-then-eq
 returns-then-eq c =
-    found (vec_items c.args.self.now.entries) c.args.self.now.classed c.args.self.now.earlier c.args.row.now c.loop-at.at c.entry-entry.result (search rules) (search rules) c.loop-at.invariant (rows_is _ _ (search rules))
+    found (vec_items c.args.self.now.entries) c.args.self.now.classed c.args.self.now.earlier c.args.row.now c.loop-at.at c.entry-entry.result.now (search rules) (search rules) c.loop-at.invariant (rows_is _ _ (search rules))
 
 pub loop-at-smaller : goal.loop-at-smaller
 loop-at-smaller c =
-    (goes_on (vec_items c.args.self.now.entries) c.args.row.now c.loop-at.at c.entry-entry.result (search rules) (search rules) c.args.self.now.chained c.loop-at.invariant (search (rules, tests))).0
+    (goes_on (vec_items c.args.self.now.entries) c.args.row.now c.loop-at.at c.entry-entry.result.now (search rules) (search rules) c.args.self.now.chained c.loop-at.invariant (search (rules, tests))).0
 
 pub loop-at-preserved : goal.loop-at-preserved
 loop-at-preserved c =
-    (goes_on (vec_items c.args.self.now.entries) c.args.row.now c.loop-at.at c.entry-entry.result (search rules) (search rules) c.args.self.now.chained c.loop-at.invariant (search (rules, tests))).1
+    (goes_on (vec_items c.args.self.now.entries) c.args.row.now c.loop-at.at c.entry-entry.result.now (search rules) (search rules) c.args.self.now.chained c.loop-at.invariant (search (rules, tests))).1
 
 pub returns : goal.returns
 returns c =

@@ -2,7 +2,7 @@ use Rattle.std.proofs.Common.{◌≡◌, ◌+◌, ◌*◌, vec_items, drop}
 use Rattle.model.specs.Trees.{eq_trees}
 use Rattle.rows.specs.Rows.{values, values_at}
 use Rattle.rows.proofs.Equality.{above}
-use Rattle.rows.proofs.rows.Rows.+equal_equal_parts.Given as goal
+use Rattle.rows.proofs.rows.Rows.+equality.Given as goal
 
 -- the number of the left row, or of one above all left rows
 abbrev pub decreases-equal : goal.decreases-equal
