@@ -1,17 +1,16 @@
 -- Going down rows to compare their values.
-use Rattle.std.proofs.Common.{◌≡◌, ◌≢◌, ℕ, suc, ◌+◌, ◌<◌, ◌≤◌, max, Bool, T, false, true, ◌&&◌, List, [], ◌∷◌, length, drop, get_or, refl, sym, ap, ap₂, ◌∙◌, subst, arith}
+use Rattle.std.proofs.Common.{◌≡◌, ◌≢◌, ℕ, suc, ◌+◌, ◌<◌, ◌≤◌, max, Bool, T, false, true, ◌&&◌, List, [], ◌∷◌, length, drop, get_or, refl, sym, ap, ap₂, ◌∙◌}
 use Rattle.std.proofs.Flags.{T_true}
 use Rattle.std.proofs.Math.Bool.{and-false, and-true}
-use Rattle.std.proofs.lemmas.List.{get_or_default, at_drop_more}
+use Rattle.std.proofs.lemmas.List.{at_drop_more}
 use Rattle.std.proofs.lemmas.List.Recursion.{max_bounds, max_least}
-use Rattle.std.specs.List.{All}
 use Rattle.model.specs.Trees.{Tree, leaf, eq_tree, eq_trees}
 use Rattle.model.proofs.Trees.{eq_tree_is, is_eq_tree}
 use Rattle.rows.specs.declared.entry.Row.{Row}
 use Rattle.rows.specs.declared.entry.Row.TheVariants.{Atom, Compound}
 use Rattle.rows.specs.declared.entry.Entry.{Entry}
 use Rattle.rows.specs.Rows.{values_at, row_value, values}
-use Rattle.rows.specs.Classes.{place_of, parts_of, row_at, class_at, value_at, Classed, Earlier, IsRow}
+use Rattle.rows.specs.Classes.{place_of, parts_of, row_at, class_at, value_at, Classed, Earlier}
 use Rattle.rows.specs.Answered.{alike}
 use Rattle.rows.proofs.Finding.{value_at_row}
 
@@ -68,8 +67,6 @@ module _ (es : List Entry) (classed : Classed es) where
         ap₂ eq_tree (value_at_row es classed earlier j a ∙ ap (row_value (values es)) (sym p)) (value_at_row es classed earlier k b ∙ ap (row_value (values es)) (sym q))
         ∙ eq_of_rows (values es) r s
 
-    -- the parts of a row are earlier rows
-    pub parts_before : (j : ℕ) → j < length es → (above (parts_of (row_at es j)) ≤ j) × All (IsRow es) (parts_of (row_at es j))
-    parts_before j h =
-        let ps = parts_of (row_at es j) in
-        (above_least ps j (λ i l. earlier j i h l), λ i d l. let x = earlier j i h l in subst (IsRow es) (get_or_default ps i 0 d l) (omega arith))
+-- the parts of a row are earlier rows
+pub parts_before : (es : List Entry) → Earlier es → (j : ℕ) → j < length es → above (parts_of (row_at es j)) ≤ j
+parts_before es earlier j h = above_least (parts_of (row_at es j)) j (λ i l. earlier j i h l)

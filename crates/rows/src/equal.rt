@@ -3,7 +3,7 @@ ghost use Rattle.std.specs.Prelude.{◌≡◌};
 ghost use Rattle.std.specs.List.{All};
 ghost use Rattle.model.specs.Trees.{eq_tree, eq_trees};
 ghost use Rattle.rows.specs.Rows.{values, values_at};
-ghost use Rattle.rows.specs.Classes.{IsRow, value_at};
+ghost use Rattle.rows.specs.Classes.{IsRow, IsFirst, value_at};
 
 use crate::rows::Rows;
 
@@ -32,8 +32,8 @@ impl Rows {
     // Whether rows have the values of other rows, each in its place: those with unlike numbers are gone into.
     #[cycle(equality)]
     fn equal_parts(&self, left: &[u16], right: &[u16]) -> bool
-        requires left { All (IsRow self.now.entries.items) left.now }
-        requires right { All (IsRow self.now.entries.items) right.now }
+        requires left { All (IsFirst self.now.entries.items) left.now }
+        requires right { All (IsFirst self.now.entries.items) right.now }
         ensures { result ≡ eq_trees (values_at (values self.now.entries.items) left.now) (values_at (values self.now.entries.items) right.now) }
     {
         if left.len() != right.len() {

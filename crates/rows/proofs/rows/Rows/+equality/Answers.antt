@@ -1,4 +1,5 @@
 use Rattle.std.proofs.Common.{rules, vec_items, refl, sym, ◌∙◌, arith}
+use Rattle.rows.proofs.Finding.{of_first}
 use Rattle.rows.proofs.Equality.{above_each, other_count, of_one_row, of_two_firsts, eq_at, parts_before, parts_ahead}
 use Rattle.rows.proofs.rows.Rows.+equality.Goals as goal
 use Rattle.rows.proofs.rows.Rows.+equality.Goals.{equal_parts-else-part-other-via-then-part-other+else-not-equal, equal_parts-else-part-other-via-else-part-other}
@@ -16,10 +17,12 @@ equal-returns-then-other-right t c =
 pub equal-equal_parts-requires : goal.equal-equal_parts-requires
 equal-equal_parts-requires t c =
     let s = c.args.self.now in
-    let l = parts_before (vec_items s.entries) s.classed s.earlier c.args.left c.requires.left in
-    let r = parts_before (vec_items s.entries) s.classed s.earlier c.args.right c.requires.right in
-    let d = c.decreases in
-    (rw (c.parts.ensures, c.entry-one.ensures) (omega (arith, l.0, d)), (rw (c.parts.ensures, c.entry-one.ensures) l.1, rw (c.parts-then-is_like.ensures, c.entry-other.ensures) r.1))
+    let l = parts_before (vec_items s.entries) s.earlier c.args.left c.requires.left in
+    let f = of_first (vec_items s.entries) s.classed s.earlier s.first in
+    let d = c.decreases in (
+      rw (c.parts.ensures, c.entry-one.ensures) (omega (arith, l, d)),
+      (rw (c.parts.ensures, c.entry-one.ensures) (f c.args.left c.requires.left), rw (c.parts-then-is_like.ensures, c.entry-other.ensures) (f c.args.right c.requires.right)),
+    )
 
 pub equal-returns-then-is_like : goal.equal-returns-then-is_like
 equal-returns-then-is_like t c =
@@ -42,7 +45,7 @@ equal_parts-equal-requires t c =
     let l = above_each c.args.left.now c.loop-place.place n in
     let d = c.decreases in
     let e = c.if-left-right.false in
-    (omega (arith, l, d), (c.requires.left c.loop-place.place 0 n, c.requires.right c.loop-place.place 0 (omega (arith, e, n))))
+    (omega (arith, l, d), ((c.requires.left c.loop-place.place 0 n).0, (c.requires.right c.loop-place.place 0 (omega (arith, e, n))).0))
 
 pub equal_parts-loop-place-preserved : goal.equal_parts-loop-place-preserved
 equal_parts-loop-place-preserved t c =
