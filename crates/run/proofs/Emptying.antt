@@ -8,7 +8,7 @@ use Rattle.program.specs.Held.{has, from, fills}
 use Rattle.program.proofs.Filling.{has_append, from_more}
 use Rattle.run.specs.Shown.{vacant, register}
 use Rattle.run.specs.Filling.{filled_by}
-use Rattle.run.specs.Lined.{Empties}
+use Rattle.run.specs.Lines.{Empties}
 
 pub none_emptied : (cells : List ℕ) → Empties [] cells cells
 none_emptied cells = (refl, λ r. refl)

@@ -11,7 +11,7 @@ use Rattle.program.specs.Held.{from, has}
 use Rattle.program.proofs.CheckLaw.{has_first}
 use Rattle.store.specs.Makers.{with_more, gathered}
 use Rattle.run.specs.Shown.{Meaning, Small, as_option, vacant, register, StandsFor, StandFor, Holds, Kept}
-use Rattle.run.specs.Stepped.{Filled, no_more, one_more}
+use Rattle.run.specs.Actions.{Filled, no_more, one_more}
 
 no_value : (m : Meaning) → Small m → (o : Option Tree) → m vacant ≡ o → o ≡ None
 no_value m small None e = refl

@@ -9,7 +9,7 @@ use Rattle.store.specs.Numbers.{part_count}
 use Rattle.store.specs.Questions.{shape_of, value_at, part_of, part_value, Answers}
 use Rattle.run.specs.Shown.{Meaning}
 use mathlib.Core.Path.{subst⁻¹}
-use Rattle.run.specs.Stepped.{parts_within, Filled, no_more, one_more, FitsShape, Opens}
+use Rattle.run.specs.Actions.{parts_within, Filled, no_more, one_more, FitsShape, Opens}
 
 -- what is left of some values after the first
 abbrev pub left_of : ℕ → Trees → Trees

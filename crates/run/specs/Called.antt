@@ -1,8 +1,7 @@
--- What a call does to a run and a store: what the definition of plain runs says.
+-- What a call does to values: what the definition of plain runs says.
 use Rattle.std.specs.Prelude.{◌≡◌, ℕ, Bool, true, false, cond, if◌then◌else◌, List, [], ◌∷◌, length, map, drop, Ok, Err}
 use Rattle.std.specs.Prelude as std
 use Rattle.std.proofs.Math.Option.{Option, none as nothing, some}
-use Rattle.model.specs.Trees.{Tree}
 use Rattle.model.specs.Runs.{empty}
 use Rattle.model.specs.Sessions.{Answer, taken, declined, outside}
 use Rattle.program.specs.declared.held.Program.{Program}
@@ -10,6 +9,8 @@ use Rattle.run.specs.declared.fault.RunFault.{RunFault}
 use Rattle.run.specs.declared.fault.RunFault.TheVariants.{OutOfTurn, Counts}
 use Rattle.run.specs.declared.run.Run.{Run}
 use Rattle.run.specs.Plain.{Plain, new_plain, Call, begin, say, hear, Turn, begins, says, hears, nobody, turn_now, counts_fit, After, call}
+use Rattle.store.specs.Semantics.{Semantics}
+use Rattle.run.specs.Calls.{Begins, Says, Hears}
 use Rattle.run.specs.Faults.{run_fault_number, run_fault_place, fault_of, IsLate}
 use Rattle.run.specs.Filling.{lined, filled_by, span_to}
 use Rattle.run.specs.Turned.{rows_ahead}
@@ -71,27 +72,27 @@ unsaid (taken o) = taken nothing
 unsaid (declined n k) = declined n k
 unsaid outside = outside
 
-module _ {S : Type 0} (means : S → Meaning) (space : S → ℕ) (cost : Tree → ℕ) where
+module _ {S : Type 0} (M : Semantics S) where
   -- a call took a run and a store to what it does to the plain run
   pub record Took (new : S) (run' : Run) (replies : Answer → Type 0) (after : After) : Type 0 where
-    pub shows : Shows (means new) run' after.run
-    pub paid : space new ≡ after.space
+    pub shows : Shows (M.means new) run' after.run
+    pub paid : M.space new ≡ after.space
     pub replied : replies after.reply
 
   -- Every valid handle keeps its value. A call that is out of turn, or has wrong counts, is refused for that, and alters nothing; no
   -- other call is. And whatever plain run it shows, the call does to it what the definition says.
   pub record Called (old new : S) (run run' : Run) (e : Call) (fault : Option RunFault) (replies : Answer → Type 0) : Type 0 where
-    pub kept : Kept (means old) (means new)
+    pub kept : Kept (M.means old) (M.means new)
+    pub priced : M.cost new ≡ M.cost old
     pub refused : (f : RunFault) → early (bare run) e ≡ some f → (new ≡ old) × (run' ≡ run) × (fault ≡ some f)
     pub late : early (bare run) e ≡ nothing → IsLate fault
-    pub done : (w : Plain) → Shows (means old) run w → Took new run' replies (call cost w (space old) e)
+    pub done : (w : Plain) → Shows (M.means old) run w → Took new run' replies (call (M.cost old) w (M.space old) e)
 
-  abbrev pub Begins : S → S → Run → Run → List ℕ → List ℕ → std.Result (Unit {0}) RunFault → Type 0
-  Begins old new run run' given numbers result =
-      Called old new run run' (begin (map (λ h. as_option (means old h)) given) numbers) (fault_of result) (λ a. unsaid a ≡ did result)
-
-  abbrev pub Says : S → S → Run → Run → std.Result ℕ RunFault → Type 0
-  Says old new run run' result = Called old new run run' say (fault_of result) (λ a. a ≡ said (means new) result)
-
-  abbrev pub Hears : S → S → Run → Run → ℕ → std.Result (Unit {0}) RunFault → Type 0
-  Hears old new run run' handle result = Called old new run run' (hear (as_option (means old handle))) (fault_of result) (λ a. unsaid a ≡ did result)
+  -- What the calls do to values follows from what they do on stores.
+  pub record ValueLaw : Type 0 where
+    pub begins : (old new : S) (run run' : Run) (given numbers : List ℕ) (result : std.Result (Unit {0}) RunFault) → Begins M old new run run' given numbers result
+        → Called old new run run' (begin (map (λ h. as_option (M.means old h)) given) numbers) (fault_of result) (λ a. unsaid a ≡ did result)
+    pub says : (old new : S) (run run' : Run) (result : std.Result ℕ RunFault) → Says M old new run run' result
+        → Called old new run run' say (fault_of result) (λ a. a ≡ said (M.means new) result)
+    pub hears : (old new : S) (run run' : Run) (handle : ℕ) (result : std.Result (Unit {0}) RunFault) → Hears M old new run run' handle result
+        → Called old new run run' (hear (as_option (M.means old handle))) (fault_of result) (λ a. unsaid a ≡ did result)

@@ -1,12 +1,12 @@
 pub mod Plain
 pub mod Faults
-pub mod Taking
 pub mod Shown
-pub mod Stepped
+pub mod Supplies
+pub mod Actions
 pub mod Filling
-pub mod Lined
+pub mod Lines
 pub mod Turned
 pub mod Started
-pub mod Tried
+pub mod Calls
 pub mod Called
 pub mod Looked

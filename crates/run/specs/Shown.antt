@@ -1,10 +1,9 @@
 -- What handles stand for, in a store: its meaning tells the value of a handle, if it is valid.
-use Rattle.std.specs.Prelude.{◌≡◌, ◌<◌, ℕ, List, [], ◌∷◌, Some, None, slice_index_or, drop}
+use Rattle.std.specs.Prelude.{◌≡◌, ◌<◌, ℕ, List, [], ◌∷◌, Some, None, slice_index_or}
 use Rattle.std.specs.Prelude as std
 use Rattle.std.proofs.Math.Option.{Option, none as nothing, some}
 use Rattle.model.specs.Trees.{Tree}
-use Rattle.model.specs.Runs.{Memory, Machine}
-use Rattle.run.specs.declared.supply.Supply.{Supply}
+use Rattle.model.specs.Runs.{Memory}
 
 abbrev pub Meaning : Type 0
 Meaning = ℕ → std.Option Tree
@@ -42,10 +41,3 @@ Holds m cells memory = (r : ℕ) → StandsFor m (register cells r) (memory r)
 -- valid handles keep their values
 abbrev pub Kept : Meaning → Meaning → Type 0
 Kept m m' = (h : ℕ) (v : Tree) → m h ≡ Some v → m' h ≡ Some v
-
--- the store, the registers, and what is still to be taken in show a machine
-pub record Shown (m : Meaning) (free : ℕ) (cells : List ℕ) (supply : Supply) (M : Machine) : Type 0 where
-  pub memory : Holds m cells M.mem
-  pub space : M.space ≡ free
-  pub inputs : StandFor m supply.handles.now M.inputs
-  pub numbers : M.numbers ≡ drop supply.used supply.numbers.now

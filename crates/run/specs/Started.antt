@@ -17,4 +17,5 @@ pub record Starts (run run' : Run) (given : List ℕ) : Type 0 where
 pub record Cancels (run run' : Run) : Type 0 where
   pub stays : Stays run run'
   pub begun : run'.begun ≡ false
+  pub used : run'.used ≡ 0
   pub numbers : run'.numbers.items ≡ []

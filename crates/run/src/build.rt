@@ -3,7 +3,7 @@ ghost use Rattle.std.specs.Prelude.{◌≡◌, ◌≤◌, [], ◌∷◌, length,
 ghost use Rattle.model.specs.Trees.{crypted};
 ghost use Rattle.program.specs.Actions.{opened_head};
 ghost use Rattle.store.specs.Makers.{Makes};
-ghost use Rattle.run.specs.Stepped.{Builds, next_atom};
+ghost use Rattle.run.specs.Actions.{Builds, next_atom};
 
 use crate::fault::StepFault;
 use crate::registers::Registers;
@@ -14,7 +14,7 @@ use store::store::Store;
 
 // A new atom, of the next number.
 pub(crate) fn atom<S: Store>(store: &mut S, supply: &mut Supply) -> Result<u32, StoreFault>
-    ensures made { Makes S.means S.space S.cost store.old store.new (next_atom (drop supply.old.used supply.old.numbers.now)) result }
+    ensures made { Makes S.semantics store.old store.new (next_atom (drop supply.old.used supply.old.numbers.now)) result }
     ensures taken { drop supply.new.used supply.new.numbers.now ≡ drop 1 (drop supply.old.used supply.old.numbers.now) }
     ensures numbers { supply.new.numbers.now ≡ supply.old.numbers.now }
     ensures handles { supply.new.handles.now ≡ supply.old.handles.now }
@@ -30,7 +30,7 @@ pub(crate) fn encrypt<S: Store>(
     text: u16,
     key: u16,
 ) -> Result<(), StepFault>
-    ensures { Builds S.means S.space S.cost crypted (text ∷ key ∷ []) target store.old store.new registers.old registers.new result }
+    ensures { Builds S.semantics crypted (text ∷ key ∷ []) target store.old store.new registers.old registers.new result }
 {
     registers.keep(
         target,
@@ -46,8 +46,7 @@ pub(crate) fn build<S: Store>(
     function: Option<u8>,
     parts: Parts,
 ) -> Result<(), StepFault>
-    ensures built { Builds S.means S.space S.cost (opened_head function) parts target store.old store.new registers.old registers.new result }
-    ensures bound { length parts ≤ 8 }
+    ensures { Builds S.semantics (opened_head function) parts target store.old store.new registers.old registers.new result }
 {
     let handles = registers.handles(parts.as_slice());
     let handles = &handles[..parts.as_slice().len()];

@@ -1,5 +1,5 @@
 // The calls of a run: begin, say and hear.
-ghost use Rattle.run.specs.Called.{Begins, Says, Hears};
+ghost use Rattle.run.specs.Calls.{Begins, Says, Hears};
 
 use crate::fault::RunFault;
 use crate::run::Run;
@@ -16,7 +16,7 @@ impl<'a> Run<'a> {
         given: &[u32],
         numbers: &[u32],
     ) -> Result<(), RunFault>
-        ensures { Begins S.means S.space S.cost store.old store.new self.old self.new given.now numbers.now result }
+        ensures { Begins S.semantics store.old store.new self.old self.new given.now numbers.now result }
     {
         self.in_turn(Asked::Begin)?;
         let rows = self.ahead();
@@ -37,7 +37,7 @@ impl<'a> Run<'a> {
 
     // The next line is said. It answers the handle of what the line says last.
     pub fn say<S: Store>(&mut self, store: &mut S) -> Result<u32, RunFault>
-        ensures { Says S.means S.space S.cost store.old store.new self.old self.new result }
+        ensures { Says S.semantics store.old store.new self.old self.new result }
     {
         self.in_turn(Asked::Say)?;
         let line = self.line();
@@ -47,7 +47,7 @@ impl<'a> Run<'a> {
 
     // The next line is heard, with the handle of what arrives.
     pub fn hear<S: Store>(&mut self, store: &mut S, handle: u32) -> Result<(), RunFault>
-        ensures { Hears S.means S.space S.cost store.old store.new self.old self.new handle result }
+        ensures { Hears S.semantics store.old store.new self.old self.new handle result }
     {
         self.in_turn(Asked::Hear)?;
         let line = self.line();

@@ -17,3 +17,4 @@ mod supply;
 mod try_line;
 mod turn;
 mod valid;
+pub mod values;

@@ -1,9 +1,9 @@
 // The actions of a line, one after the other.
-ghost use Rattle.std.specs.Prelude.{ℕ, ◌≡◌, ◌<◌, ◌+◌, ◌≤◌, true, length};
+ghost use Rattle.std.specs.Prelude.{ℕ, ◌≡◌, ◌<◌, ◌+◌, true, length};
 ghost use Rattle.program.specs.Held.{has, from};
 ghost use Rattle.run.specs.Shown.{register, vacant};
 ghost use Rattle.run.specs.Filling.{filled_by};
-ghost use Rattle.run.specs.Lined.{Lined, Empties};
+ghost use Rattle.run.specs.Lines.{Performs, Empties};
 
 use crate::fault::RunFault;
 use crate::registers::{Registers, VACANT};
@@ -22,10 +22,9 @@ pub(crate) fn perform<S: Store>(
     registers: &mut Registers,
     supply: Supply,
 ) -> Result<usize, RunFault>
-    requires room { (r : ℕ) → has r (filled_by rows.now) ≡ true → r < length registers.old }
     requires empty { (r : ℕ) → has r (filled_by rows.now) ≡ true → register registers.old r ≡ vacant }
     requires fits { place + length rows.now < 18446744073709551616 }
-    ensures { Lined S.means S.space S.cost rows.now place store.old store.new registers.old registers.new supply.entry result }
+    ensures { Performs S.semantics rows.now place store.old store.new registers.old registers.new supply.entry result }
 {
     let mut left = supply;
     for (i, row) in rows.iter().enumerate() {

@@ -1,7 +1,7 @@
 // Values that an action takes apart.
 ghost use Rattle.store.specs.Questions.{unlocked_value, Answers};
 ghost use Rattle.run.specs.Shown.{register};
-ghost use Rattle.run.specs.Stepped.{Opens, FitsShape, compound_shape};
+ghost use Rattle.run.specs.Actions.{Opens, FitsShape, compound_shape};
 
 use crate::fault::StepFault;
 use crate::registers::Registers;
@@ -16,7 +16,7 @@ pub(crate) fn decrypt<S: Store>(
     source: u16,
     key: u16,
 ) -> Result<u32, StoreFault>
-    ensures { Answers (S.means store.now) (unlocked_value (S.means store.now (register registers.now source)) (S.means store.now (register registers.now key))) result }
+    ensures { Answers (S.semantics.means store.now) (unlocked_value (S.semantics.means store.now (register registers.now source)) (S.semantics.means store.now (register registers.now key))) result }
 {
     store.unlock(registers.at(source), registers.at(key))
 }
@@ -30,7 +30,7 @@ pub(crate) fn take_apart<S: Store>(
     source: u16,
     function: Option<u8>,
 ) -> Result<(), StepFault>
-    ensures { Opens (S.means store.now) registers.old registers.new first (S.means store.now (register registers.old source)) (compound_shape function count) result }
+    ensures { Opens (S.semantics.means store.now) registers.old registers.new first (S.semantics.means store.now (register registers.old source)) (compound_shape function count) result }
 {
     let parts = count;
     let wanted = match function {
@@ -42,7 +42,7 @@ pub(crate) fn take_apart<S: Store>(
 
 // A value must have some shape.
 fn fit<S: Store>(store: &S, handle: u32, wanted: Shape) -> Result<(), StepFault>
-    ensures { FitsShape (S.means store.now handle) wanted result }
+    ensures { FitsShape (S.semantics.means store.now handle) wanted result }
 {
     if store.shape(handle)? != wanted {
         return Err(StepFault::Differs);
@@ -58,7 +58,7 @@ fn open<S: Store>(
     source: u16,
     wanted: Shape,
 ) -> Result<(), StepFault>
-    ensures { Opens (S.means store.now) registers.old registers.new first (S.means store.now (register registers.old source)) wanted result }
+    ensures { Opens (S.semantics.means store.now) registers.old registers.new first (S.semantics.means store.now (register registers.old source)) wanted result }
 {
     let handle = registers.at(source);
     fit(store, handle, wanted)?;

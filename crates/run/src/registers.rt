@@ -1,7 +1,7 @@
 // The registers of a run: each holds the handle of its value, or nothing yet.
 ghost use Rattle.std.specs.Prelude.{◌≡◌, ℕ, ◌≤◌, replicate, IfOk, length, map, take, slice_set};
 ghost use Rattle.run.specs.Shown.{register, vacant};
-ghost use Rattle.run.specs.Stepped.{Keeps, filled};
+ghost use Rattle.run.specs.Actions.{Keeps, filled};
 
 use crate::fault::StepFault;
 use std::alloc::{AllocError, Global};

@@ -1,15 +1,13 @@
 // What a line says.
-ghost use Rattle.std.specs.Prelude.{◌≡◌, ◌==◌, if◌then◌else◌, map};
-ghost use Rattle.model.specs.Runs.{Memory, answer, says_of};
-ghost use Rattle.program.specs.Actions.{act_of, row_act};
-ghost use Rattle.run.specs.Shown.{Meaning, Small, vacant, Holds, StandsFor};
+ghost use Rattle.std.specs.Prelude.{◌≡◌};
+ghost use Rattle.run.specs.Lines.{last_said, or_before, said_handle};
 
 use crate::registers::{Registers, VACANT};
 use program::action::{Action, Row};
 
 // The handle of what some rows say last.
 pub(crate) fn said(rows: &[Row], registers: &Registers) -> u32
-    ensures { (m : Meaning) (memory : Memory) → Small m → Holds m registers.now memory → StandsFor m result (answer (map row_act rows.now) memory) }
+    ensures { result ≡ last_said registers.now rows.now }
 {
     let mut said = VACANT;
     for row in rows {
@@ -20,7 +18,7 @@ pub(crate) fn said(rows: &[Row], registers: &Registers) -> u32
 
 // The handle of what an action says.
 fn says(action: Action, registers: &Registers) -> u32
-    ensures { (m : Meaning) (memory : Memory) → Small m → Holds m registers.now memory → StandsFor m result (says_of (act_of action) memory) }
+    ensures { result ≡ said_handle registers.now action }
 {
     match action {
         Action::Say { source } => registers.at(source),
@@ -30,7 +28,7 @@ fn says(action: Action, registers: &Registers) -> u32
 
 // A handle, or else the one before it.
 fn either(handle: u32, before: u32) -> u32
-    ensures { result ≡ (if handle == vacant then before else handle) }
+    ensures { result ≡ or_before handle before }
 {
     if handle == VACANT { before } else { handle }
 }

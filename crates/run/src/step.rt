@@ -1,7 +1,6 @@
 // One action of a run.
-ghost use Rattle.std.specs.Prelude.{ℕ, ◌≡◌, ◌<◌, true, length};
-ghost use Rattle.program.specs.Held.{has, fills};
-ghost use Rattle.run.specs.Stepped.{Stepped, Compares};
+ghost use Rattle.std.specs.Prelude.{◌≡◌};
+ghost use Rattle.run.specs.Actions.{state_of, compared, Does};
 
 use crate::build::{atom, build, encrypt};
 use crate::fault::StepFault;
@@ -17,8 +16,8 @@ pub(crate) fn step<S: Store>(
     registers: &mut Registers,
     supply: &mut Supply,
 ) -> Result<(), StepFault>
-    requires { (r : ℕ) → has r (fills action) ≡ true → r < length registers.old }
-    ensures { Stepped S.means S.space S.cost action store.old store.new registers.old registers.new supply.old supply.new result }
+    ensures does { Does S.semantics action store.old (state_of registers.old supply.old) store.new (state_of registers.new supply.new) result }
+    ensures numbers { supply.new.numbers.now ≡ supply.old.numbers.now }
 {
     match action {
         Action::Give { target } | Action::Hear { target } => registers.keep(target, supply.input()),
@@ -53,7 +52,7 @@ pub(crate) fn step<S: Store>(
 
 // Two values must be equal.
 fn compare<S: Store>(store: &S, left: u32, right: u32) -> Result<(), StepFault>
-    ensures { Compares (S.means store.now left) (S.means store.now right) result }
+    ensures { result ≡ compared (S.semantics.means store.now left) (S.semantics.means store.now right) }
 {
     if store.same(left, right)? {
         Ok(())

@@ -1,6 +1,6 @@
 // What an action may take in: handles that arrive, and numbers for new atoms.
 ghost use Rattle.std.specs.Prelude.{◌≡◌, ◌≤◌, length, drop};
-ghost use Rattle.run.specs.Taking.{TakesFirst};
+ghost use Rattle.run.specs.Supplies.{first_of};
 
 use store::fault::StoreFault;
 
@@ -16,7 +16,8 @@ pub(crate) struct Supply<'a> {
 impl<'a> Supply<'a> {
     // The next handle is taken.
     pub(crate) fn input(&mut self) -> Result<u32, StoreFault>
-        ensures taken { TakesFirst self.old.handles.now self.new.handles.now result }
+        ensures answer { result ≡ first_of self.old.handles.now }
+        ensures handles { self.new.handles.now ≡ drop 1 self.old.handles.now }
         ensures numbers { self.new.numbers.now ≡ self.old.numbers.now }
         ensures used { self.new.used ≡ self.old.used }
     {
@@ -29,7 +30,8 @@ impl<'a> Supply<'a> {
 
     // The next number is taken.
     pub(crate) fn number(&mut self) -> Result<u32, StoreFault>
-        ensures taken { TakesFirst (drop self.old.used self.old.numbers.now) (drop self.new.used self.new.numbers.now) result }
+        ensures answer { result ≡ first_of (drop self.old.used self.old.numbers.now) }
+        ensures taken { drop self.new.used self.new.numbers.now ≡ drop 1 (drop self.old.used self.old.numbers.now) }
         ensures numbers { self.new.numbers.now ≡ self.old.numbers.now }
         ensures handles { self.new.handles.now ≡ self.old.handles.now }
     {

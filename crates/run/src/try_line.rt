@@ -1,5 +1,6 @@
 // A run tries its next line.
-ghost use Rattle.run.specs.Tried.{AreNext, Tried};
+ghost use Rattle.std.specs.Prelude.{◌≡◌, true};
+ghost use Rattle.run.specs.Calls.{AreNext, TriesLine};
 
 use crate::fault::RunFault;
 use crate::line::perform;
@@ -16,8 +17,9 @@ impl<'a> Run<'a> {
         line: &[Row],
         inputs: &[u32],
     ) -> Result<(), RunFault>
-        requires { AreNext line.now self.old }
-        ensures { Tried S.means S.space S.cost line.now inputs.now store.old store.new self.old self.new result }
+        requires next { AreNext line.now self.old }
+        requires begun { self.old.begun ≡ true }
+        ensures { TriesLine S.semantics line.now inputs.now store.old store.new self.old self.new result }
     {
         let supply = Supply {
             handles: inputs,

@@ -1,5 +1,5 @@
 use Rattle.program.specs.Held.{from}
-use Rattle.run.specs.Lined.{Empties}
+use Rattle.run.specs.Lines.{Empties}
 use Rattle.run.proofs.line.empty.Given as goal
 
 abbrev pub invariant-loop-i : goal.invariant-loop-i

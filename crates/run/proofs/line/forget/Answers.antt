@@ -2,7 +2,7 @@ use Rattle.std.proofs.Common.{sym}
 use mathlib.Core.Path.{subst⁻¹}
 use Rattle.program.proofs.Stepping.{fills_span}
 use Rattle.program.specs.Held.{from}
-use Rattle.run.specs.Lined.{Empties}
+use Rattle.run.specs.Lines.{Empties}
 use Rattle.run.proofs.Emptying.{rows_more}
 use Rattle.run.proofs.line.forget.Goals as goal
 

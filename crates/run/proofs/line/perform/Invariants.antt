@@ -1,7 +1,5 @@
-use Rattle.run.proofs.Lining.{Upto}
+use Rattle.run.proofs.Lines.{Upto}
 use Rattle.run.proofs.line.perform.Given as goal
 
 abbrev pub invariant-loop-i : goal.invariant-loop-i
-invariant-loop-i g l =
-    let m = g.S.Store in
-    Upto m.means m.space m.cost l.rows l.place l.initial.store l.initial.registers l.supply l.i l.store l.registers l.left
+invariant-loop-i g l = Upto g.S.Store.semantics l.rows l.place l.initial.store l.initial.registers l.supply l.i l.store l.registers l.left

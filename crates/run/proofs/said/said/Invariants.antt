@@ -1,4 +1,4 @@
-use Rattle.run.proofs.Saying.{SaidUpto}
+use Rattle.run.proofs.Inputs.{SaidUpto}
 use Rattle.run.proofs.said.said.Given as goal
 
 abbrev pub invariant-loop-row : goal.invariant-loop-row
