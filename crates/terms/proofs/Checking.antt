@@ -1,5 +1,5 @@
 -- The function that is applied, and its arguments.
-use Rattle.std.proofs.Common.{◌≡◌, ◌==◌, ℕ, suc, ◌<◌, cond, List, [], ◌∷◌, map, length, get_or, Some, None, Ok, Err, Option, vec_items, refl, ap, ◌∙◌, sym, arith}
+use Rattle.std.proofs.Common.{◌≡◌, ◌==◌, ℕ, suc, ◌<◌, cond, List, [], ◌∷◌, map, length, get_or, Some, None, Ok, Err, Option, vec_items, vec_len, refl, ap, ◌∙◌, sym, arith}
 use Rattle.std.specs.Borrow.{Bor}
 use Rattle.std.specs.Prelude.{option_map}
 use Rattle.std.specs.List.{find}
@@ -19,7 +19,7 @@ use Rattle.terms.specs.declared.declarations.ValueType.{ValueType}
 use Rattle.terms.specs.declared.fault.TermFault.TheVariants.{WrongType}
 use Rattle.terms.specs.Scope.{Scope, Signature, no_function, declares, meaning_of}
 use Rattle.terms.specs.Typing.{and_then, fits, applied, applied_fits, typed, typed_all}
-use Rattle.terms.specs.Meanings.{Means, signature_of}
+use Rattle.terms.specs.Meanings.{signature_of, scope_of}
 use Rattle.terms.specs.Checked.{found}
 use Rattle.terms.proofs.Naming.{found_place}
 
@@ -28,21 +28,21 @@ function_at : (fs : List Function) (g at : ℕ) → g < length fs → (o : Optio
 function_at fs g at h None i = absurd (let z = i.2 h in cc)
 function_at fs g at h (Some f) i = ap Ok (ap signature_of i.1 ∙ sym (get_or-map signature_of fs g f.now no_function h))
 
-module _ (text : List ℕ) (d : Declarations) (S : Scope) (m : Means d S) (n : Name) (g : ℕ) (e : meaning_of text (vec_items d.names) n.part ≡ Some (meaning.Function g)) where
+module _ (text : List ℕ) (d : Declarations) (n : Name) (g : ℕ) (e : meaning_of text (vec_items d.names) n.part ≡ Some (meaning.Function g)) where
   -- a function's name stands for one of the functions
-  within : g < length (vec_items d.functions)
+  within : g < vec_len d.functions
   within = go (find (declares text n.part) (vec_items d.names)) refl e
     where
-      go : (o : Option Declared) → find (declares text n.part) (vec_items d.names) ≡ o → option_map (λ (x : Declared). x.meaning) o ≡ Some (meaning.Function g) → g < length (vec_items d.functions)
+      go : (o : Option Declared) → find (declares text n.part) (vec_items d.names) ≡ o → option_map (λ (x : Declared). x.meaning) o ≡ Some (meaning.Function g) → g < vec_len d.functions
       go None q e = absurd (cc)
-      go (Some x) q e = let a = found_place (declares text n.part) (vec_items d.names) x q in m.defined a.0 g x a.1 (ap (λ (x : Declared). x.meaning) a.2 ∙ cc)
+      go (Some x) q e = let a = found_place (declares text n.part) (vec_items d.names) x q in d.defined a.0 g x a.1 (ap (λ (x : Declared). x.meaning) a.2 ∙ cc)
 
-  pub function_found : (fs : List Function) → fs ≡ vec_items d.functions → (o : Option (Bor Function)) → IsItemAt fs g o → found (ok_or o (WrongType n.at)) ≡ applied S.functions n (meaning_of text S.names n.part)
+  pub function_found : (fs : List Function) → fs ≡ vec_items d.functions → (o : Option (Bor Function)) → IsItemAt fs g o → found (ok_or o (WrongType n.at)) ≡ applied (scope_of d).functions n (meaning_of text (scope_of d).names n.part)
   function_found fs q o i =
-      let h : g < length fs = let l = ap length q in let w = within in omega arith in
-      function_at fs g n.at h o i ∙ ap (λ fs. Ok (get_or fs g no_function)) (ap (map signature_of) q ∙ m.functions) ∙ ap (applied S.functions n) (sym e ∙ ap (λ ns. meaning_of text ns n.part) m.names)
+      let h : g < length fs = let l = ap length q in let w = within in let k = d.functions.ok.0 in omega arith in
+      function_at fs g n.at h o i ∙ ap (λ fs. Ok (get_or (map signature_of fs) g no_function)) q ∙ ap (applied (scope_of d).functions n) (sym e)
 
-count-terms : (ts : List TermValue) → count (terms_of ts) ≡ length ts
+pub count-terms : (ts : List TermValue) → count (terms_of ts) ≡ length ts
 count-terms [] = refl
 count-terms (t ∷ ts) = ap suc (count-terms ts)
 

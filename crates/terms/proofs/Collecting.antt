@@ -1,8 +1,7 @@
 -- Loops that gather what passes a test.
-use Rattle.std.proofs.Common.{◌≡◌, ℕ, suc, ◌+◌, ◌<◌, Bool, true, false, cond, ◌&&◌, ltb, List, [], ◌∷◌, ◌++◌, map, length, get_or, take, drop, Some, None, vec_items, Option, sym, refl, ap, ◌∙◌, ap₂, arith}
+use Rattle.std.proofs.Common.{◌≡◌, ℕ, suc, ◌+◌, ◌<◌, Bool, true, false, cond, List, [], ◌∷◌, ◌++◌, map, length, get_or, take, drop, Some, None, vec_items, Option, sym, refl, ap, ◌∙◌, ap₂, arith}
 use Rattle.std.proofs.lemmas.List.{append-nil, take_more, drop-map, get_or-map, length-map, same_lists}
 use Rattle.std.proofs.lemmas.List.Elements.{filter_map-append}
-use Rattle.std.proofs.lemmas.Bool.{lt-ltb, ltb-true, and_parts}
 use Rattle.model.specs.Trees.{Tree, leaf, node}
 use Rattle.terms.specs.declared.declarations.Declared.{Declared}
 use Rattle.terms.specs.declared.declarations.Start.{Start}
@@ -13,6 +12,7 @@ use Rattle.std.specs.List.{filter, filter_map, cons_option}
 use Rattle.terms.specs.Shapes.{grown, AllBelow}
 use Rattle.terms.specs.Rows.{shape_of, row_at}
 use Rattle.terms.specs.Terms.{tree_in, size}
+use Rattle.terms.specs.Consistency.{Started}
 use Rattle.terms.specs.Meanings.{Lists, given_in}
 use Rattle.terms.specs.Starting.{concerns, given_to, is_makeable, made_among}
 use Rattle.terms.proofs.Tables.{stands}
@@ -29,25 +29,23 @@ module _ {X Y : Type 0} (h : X → Option Y) (xs : List X) (i : ℕ) (x : X) (l 
   filter_map_not q = sym (append-nil ys) ∙ ap (λ o. ys ++ cons_option o []) (sym q) ∙ with_item
 
 -- what a party starts from, by number
-abbrev pub starts_test : ℕ → ℕ → Start → Bool
-starts_test n size s = concerns s.knower n && ltb s.term size
+abbrev pub starts_test : ℕ → Start → Bool
+starts_test n s = concerns s.knower n
 
-pub starting_below : (n size : ℕ) (ss : List Start) → AllBelow size (map (λ (s : Start). s.term) (filter (starts_test n size) ss))
-starting_below n size [] = tt
-starting_below n size (s ∷ ss) = go (starts_test n size s) refl (starting_below n size ss)
+pub starting_below : (n size : ℕ) (ss : List Start) → Started ss size → AllBelow size (map (λ (s : Start). s.term) (filter (starts_test n) ss))
+starting_below n size [] h = tt
+starting_below n size (s ∷ ss) h = go (starts_test n s) (starting_below n size ss (λ k x l. h (suc k) x (omega arith)))
   where
-    go : (b : Bool) → starts_test n size s ≡ b → AllBelow size (map (λ (s : Start). s.term) (filter (starts_test n size) ss)) → AllBelow size (map (λ (s : Start). s.term) (cond b (s ∷ filter (starts_test n size) ss) (filter (starts_test n size) ss)))
-    go true e a = (ltb-true _ _ (and_parts _ _ e).1, a)
-    go false e a = a
+    go : (b : Bool) → AllBelow size (map (λ (s : Start). s.term) (filter (starts_test n) ss)) → AllBelow size (map (λ (s : Start). s.term) (cond b (s ∷ filter (starts_test n) ss) (filter (starts_test n) ss)))
+    go true a = (h 0 s (omega arith), a)
+    go false a = a
 
-pub starting_given : (n : ℕ) (t : TermTable) (ss : List Start) → ((k : ℕ) (s : Start) → k < length ss → (get_or ss k s).term < size t) → map (tree_in t) (map (λ (s : Start). s.term) (filter (starts_test n (size t)) ss)) ≡ given_to n (map (given_in t) ss)
-starting_given n t [] h = refl
-starting_given n t (s ∷ ss) h =
-    ap (λ b. map (tree_in t) (map (λ (s : Start). s.term) (cond (concerns s.knower n && b) (s ∷ filter (starts_test n (size t)) ss) (filter (starts_test n (size t)) ss)))) (lt-ltb s.term (size t) (h 0 s (omega arith)))
-    ∙ go (concerns s.knower n) (starting_given n t ss (λ k x l. h (suc k) x (omega arith)))
+pub starting_given : (n : ℕ) (t : TermTable) (ss : List Start) → map (tree_in t) (map (λ (s : Start). s.term) (filter (starts_test n) ss)) ≡ given_to n (map (given_in t) ss)
+starting_given n t [] = refl
+starting_given n t (s ∷ ss) = go (concerns s.knower n) (starting_given n t ss)
   where
-    go : (b : Bool) → map (tree_in t) (map (λ (s : Start). s.term) (filter (starts_test n (size t)) ss)) ≡ given_to n (map (given_in t) ss)
-        → map (tree_in t) (map (λ (s : Start). s.term) (cond (b && true) (s ∷ filter (starts_test n (size t)) ss) (filter (starts_test n (size t)) ss))) ≡ cond b (tree_in t s.term ∷ given_to n (map (given_in t) ss)) (given_to n (map (given_in t) ss))
+    go : (b : Bool) → map (tree_in t) (map (λ (s : Start). s.term) (filter (starts_test n) ss)) ≡ given_to n (map (given_in t) ss)
+        → map (tree_in t) (map (λ (s : Start). s.term) (cond b (s ∷ filter (starts_test n) ss) (filter (starts_test n) ss))) ≡ cond b (tree_in t s.term ∷ given_to n (map (given_in t) ss)) (given_to n (map (given_in t) ss))
     go true e = ap (λ z. tree_in t s.term ∷ z) e
     go false e = e
 

@@ -1,7 +1,8 @@
 -- Tables that grow.
-use Rattle.std.proofs.Common.{◌≡◌, ℕ, ◌<◌, List, length, vec_items, ap, ◌∙◌, arith}
+use Rattle.std.proofs.Common.{◌≡◌, ℕ, zero, suc, ◌<◌, ◌≤◌, min, List, [], ◌∷◌, length, take, vec_items, sym, refl, ap, ◌∙◌, arith}
+use Rattle.std.proofs.lemmas.List.{length-take}
 use Rattle.terms.specs.declared.term.TermRow.{TermRow}
-use Rattle.terms.specs.Rows.{term_tree}
+use Rattle.terms.specs.Rows.{Begins, term_tree}
 use Rattle.terms.specs.declared.table.TermTable.{TermTable}
 use Rattle.terms.specs.Shapes.{Shape}
 use Rattle.terms.specs.Interned.{Numbers}
@@ -41,3 +42,17 @@ same_on a b c s r = record {
   starts = r.starts ∙ s.starts;
   rights = r.rights ∙ s.rights;
 }
+
+-- rows that begin with others, that begin with others
+take_fewer : {X : Type 0} (n m : ℕ) (xs : List X) → n ≤ m → take n (take m xs) ≡ take n xs
+take_fewer zero m xs h = refl
+take_fewer (suc n) zero xs h = absurd (omega arith)
+take_fewer (suc n) (suc m) [] h = refl
+take_fewer (suc n) (suc m) (x ∷ xs) h = ap (λ ys. x ∷ ys) (take_fewer n m xs (omega arith))
+
+pub begins_on : (xs ys zs : List TermRow) → Begins xs ys → Begins ys zs → Begins xs zs
+begins_on xs ys zs a b =
+    let x = ap length a in
+    let y = length-take (length xs) ys in
+    let h : length xs ≤ length ys = omega arith in
+    sym (take_fewer (length xs) (length ys) zs h) ∙ ap (take (length xs)) b ∙ a

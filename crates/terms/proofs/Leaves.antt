@@ -14,8 +14,8 @@ use Rattle.terms.specs.declared.declarations.Declared.{Declared}
 use Rattle.terms.specs.declared.fault.TermFault.{TermFault}
 use Rattle.terms.specs.declared.fault.TermFault.TheVariants.{Limit}
 use Rattle.terms.specs.Scope.{meaning_of}
-use Rattle.terms.specs.Numbering.{tree, trees, has, noted, next, read, read_all, function_number}
-use Rattle.terms.proofs.Steps.{steps_read}
+use Rattle.terms.specs.Numbering.{tree, trees, has, noted, next, at_most_eight, read, read_all, function_number}
+use Rattle.terms.proofs.Steps.{steps_read, few_read}
 
 pub has_append : (u : Tree) (us vs : List Tree) → has u (us ++ vs) ≡ (has u us || has u vs)
 has_append u [] vs = refl
@@ -132,13 +132,13 @@ module _ (text : List ℕ) (names : List Declared) (most : ℕ) where
     read_more (name at p) us vs e =
         let t = tree text names (name at p) in
         more_as (λ u. u ≡ t) (InTree t) (λ n. eq_tree (leaf n) t) (λ n. stands n t) us vs (λ u p. subst (λ z. Within u z) p itself) (λ n. refl) (noted_more most at t us vs e)
-    read_more (tuple at ts) us vs e = whole_more tupled (trees text names ts) most at us (read_all text names most ts us) (read_all_more ts us) vs e
+    read_more (tuple at ts) us vs e = whole_more tupled (trees text names ts) most at us (at_most_eight at ts (read_all text names most ts us)) (λ ws w. read_all_more ts us ws (few_read at ts (read_all text names most ts us) ws w)) vs e
     read_more (crypt at t k) us vs e =
         whole_more crypted (model.more (tree text names t) (model.more (tree text names k) model.none)) most at us (next (read text names most t us) (read text names most k))
         (λ ws w. let s = steps_read (read text names most t us) (read text names most k) ws w in two_more (tree text names t) (tree text names k) us s.mid ws (read_more t us s.mid s.first) (read_more k s.mid ws s.second))
         vs e
     read_more (apply at f ts) us vs e =
-        whole_more (applied (function_number (meaning_of text names f.part))) (trees text names ts) most at us (read_all text names most ts us) (read_all_more ts us) vs e
+        whole_more (applied (function_number (meaning_of text names f.part))) (trees text names ts) most at us (at_most_eight at ts (read_all text names most ts us)) (λ ws w. read_all_more ts us ws (few_read at ts (read_all text names most ts us) ws w)) vs e
 
     pub read_all_more : (ts : Terms) (us vs : List Tree) → read_all text names most ts us ≡ Ok vs → More (InOne (trees text names ts)) (λ n. stands_in_one n (trees text names ts)) us vs
     read_all_more none us vs e = subst (More (InOne model.none) (λ n. false) us) (let x : us ≡ vs = cc in x) (more_none (InOne model.none) us)
@@ -152,9 +152,9 @@ module _ (text : List ℕ) (names : List Declared) (most : ℕ) where
   -- and the term itself is there
   pub read_there : (t : Term) (us vs : List Tree) → read text names most t us ≡ Ok vs → has (tree text names t) vs ≡ true
   read_there (name at p) us vs e = noted_there most at (tree text names (name at p)) us vs e
-  read_there (tuple at ts) us vs e = whole_there (read_all text names most ts us) at (tree text names (tuple at ts)) vs e
+  read_there (tuple at ts) us vs e = whole_there (at_most_eight at ts (read_all text names most ts us)) at (tree text names (tuple at ts)) vs e
   read_there (crypt at t k) us vs e = whole_there (next (read text names most t us) (read text names most k)) at (tree text names (crypt at t k)) vs e
-  read_there (apply at f ts) us vs e = whole_there (read_all text names most ts us) at (tree text names (apply at f ts)) vs e
+  read_there (apply at f ts) us vs e = whole_there (at_most_eight at ts (read_all text names most ts us)) at (tree text names (apply at f ts)) vs e
 
 -- ciphertexts have a text and a key
 module _ (text : List ℕ) (names : List Declared) where

@@ -1,6 +1,7 @@
 pub mod Numbered
 pub mod Views
 pub mod Tables
+pub mod ListedTrees
 pub mod Interning
 pub mod Growing
 pub mod Naming

@@ -5,9 +5,9 @@ use Rattle.model.specs.Trees as model
 use Rattle.model.specs.Trees.{tupled, crypted, applied, Tree, leaf, node, Trees, ◌among◌, Within, itself, inside}
 use Rattle.syntax.specs.Specs.{Term, name, tuple, crypt, apply, Terms, none, more}
 use Rattle.terms.specs.declared.declarations.Declared.{Declared}
-use Rattle.terms.specs.Numbering.{tree, trees, has, noted, next, read, read_all}
+use Rattle.terms.specs.Numbering.{tree, trees, has, noted, next, at_most_eight, read, read_all}
 use Rattle.terms.proofs.Leaves.{has_append, More, noted_more, read_more, read_all_more, read_there}
-use Rattle.terms.proofs.Steps.{steps_read}
+use Rattle.terms.proofs.Steps.{steps_read, few_read}
 
 -- what is within a tree is the tree, or within one of its parts
 abbrev InPart : Tree → Tree → Type 0
@@ -42,8 +42,8 @@ module _ (text : List ℕ) (names : List Declared) (most : ℕ) (u : Tree) where
     pub within_listed : (t : Term) (us vs : List Tree) → read text names most t us ≡ Ok vs → Within u (tree text names t) → has u vs ≡ true
     within_listed (name at p) us vs e w = listed_if (name at p) us vs e w (λ i. absurd i)
     within_listed (tuple at ts) us vs e w =
-        let s = steps_read (read_all text names most ts us) (noted most at (tree text names (tuple at ts))) vs e in
-        listed_if (tuple at ts) us vs e w (λ i. whole_listed at (tree text names (tuple at ts)) s.mid vs s.second (one_listed ts us s.mid s.first i.0 i.1 i.2))
+        let s = steps_read (at_most_eight at ts (read_all text names most ts us)) (noted most at (tree text names (tuple at ts))) vs e in
+        listed_if (tuple at ts) us vs e w (λ i. whole_listed at (tree text names (tuple at ts)) s.mid vs s.second (one_listed ts us s.mid (few_read at ts (read_all text names most ts us) s.mid s.first) i.0 i.1 i.2))
     within_listed (crypt at t k) us vs e w =
         let s = steps_read (next (read text names most t us) (read text names most k)) (noted most at (tree text names (crypt at t k))) vs e in
         let r = steps_read (read text names most t us) (read text names most k) s.mid s.first in
@@ -53,8 +53,8 @@ module _ (text : List ℕ) (names : List Declared) (most : ℕ) (u : Tree) where
         (λ x. listed_still _ _ r.mid s.mid (read_more text names most k r.mid s.mid r.second) u (within_listed t us r.mid r.first x))
         (within_listed k r.mid s.mid r.second)))
     within_listed (apply at f ts) us vs e w =
-        let s = steps_read (read_all text names most ts us) (noted most at (tree text names (apply at f ts))) vs e in
-        listed_if (apply at f ts) us vs e w (λ i. whole_listed at (tree text names (apply at f ts)) s.mid vs s.second (one_listed ts us s.mid s.first i.0 i.1 i.2))
+        let s = steps_read (at_most_eight at ts (read_all text names most ts us)) (noted most at (tree text names (apply at f ts))) vs e in
+        listed_if (apply at f ts) us vs e w (λ i. whole_listed at (tree text names (apply at f ts)) s.mid vs s.second (one_listed ts us s.mid (few_read at ts (read_all text names most ts us) s.mid s.first) i.0 i.1 i.2))
 
     one_listed : (ts : Terms) (us vs : List Tree) → read_all text names most ts us ≡ Ok vs → (v : Tree) → v among (trees text names ts) → Within u v → has u vs ≡ true
     one_listed none us vs e v i w = elim i [ ]

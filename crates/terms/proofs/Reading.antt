@@ -1,7 +1,8 @@
 -- The numbering of a term, form by form.
-use Rattle.std.proofs.Common.{◌≡◌, ℕ, ◌+◌, ◌<◌, ◌≤◌, List, [], ◌∷◌, ◌++◌, length, take, IfOk, Some, None, Ok, Err, vec_items, Option, Result, unwrap_or, refl, ap, ◌∙◌, subst, ap₂, arith}
+use Rattle.std.proofs.Common.{◌≡◌, ℕ, ◌+◌, ◌<◌, ◌≤◌, cond, List, [], ◌∷◌, ◌++◌, length, take, IfOk, Some, None, Ok, Err, vec_items, Option, Result, unwrap_or, refl, ap, ◌∙◌, subst, ap₂, arith}
 use mathlib.Core.Path.{subst⁻¹}
 use Rattle.std.proofs.lemmas.List.{take_all, length_push}
+use Rattle.std.proofs.lemmas.Bool.{le-leb, lt-leb}
 use Rattle.model.specs.Trees as model
 use Rattle.model.specs.Trees.{Head, tupled, crypted, applied, Tree, Trees, leaf, node}
 use Rattle.program.specs.declared.parts.Parts.{Parts}
@@ -19,13 +20,21 @@ use Rattle.terms.specs.Shapes.{named, formed, grown, AllBelow}
 use Rattle.terms.specs.Interned.{Interned}
 use Rattle.terms.specs.Terms.{tree_in, size, Grows}
 use Rattle.terms.specs.Scope.{number_of, meaning_of, function_of}
-use Rattle.terms.specs.Numbering.{function_number, tree, trees, noted, next, read, read_all}
+use Rattle.terms.specs.Numbering.{function_number, tree, trees, noted, next, at_most_eight, read, read_all}
 use Rattle.terms.specs.Meanings.{Lists}
-use Rattle.terms.specs.Reads.{Noted, Gives, SayableAll, Reads, ReadsAll}
+use Rattle.terms.specs.Reads.{Refused, Noted, Gives, SayableAll, Reads, ReadsAll}
 use Rattle.terms.proofs.Noting.{noting}
 use Rattle.terms.proofs.Growing.{grows_numbered, grows_refused, number_within}
 
 -- a refused step refuses all
+refused_next : (f : TermFault) (g : List Tree → Result (List Tree) TermFault) (q : Result (List Tree) TermFault) → Refused q f → Refused (next q g) f
+refused_next (Limit p) g q e = ap (λ z. next z g) e
+refused_next (Undeclared p) g q e = ap (λ z. next z g) e
+refused_next (WrongType p) g q e = ap (λ z. next z g) e
+refused_next NoMemory g q e = tt
+
+refused_as : (f : TermFault) (q r : Result (List Tree) TermFault) → q ≡ r → Refused r f → Refused q f
+refused_as f q r e h = subst⁻¹ (λ z. Refused z f) e h
 
 -- what follows a good step
 noted_next : (t t' : TermTable) (q : Result (List Tree) TermFault) (g : List Tree → Result (List Tree) TermFault) (n : Noted t q) → Noted t' (g n.terms) → Noted t' (next q g)
@@ -55,16 +64,16 @@ module _ (text : List ℕ) (names : List Declared) (most : ℕ) (t t' : TermTabl
       subst (λ u. Gives t' u (noted most at u us) r) (ap (λ o. leaf (unwrap_or o 0)) a) (noting t t' us l (named m) tt most at r small i)
 
   module _ (t₁ : TermTable) (ps : Parts) (r : Result ℕ TermFault) (b : AllBelow (size t₁) ps) where
-    pub tuple_read : (xs : Terms) → ReadsAll text names t t₁ xs most (Ok ps) → Interned (vec_items t₁.rows) (vec_items t'.rows) (formed tupled ps) most at r → Reads text names t t' (tuple at xs) most r
+    pub tuple_read : (xs : Terms) → ReadsAll text names t t₁ at xs most (Ok ps) → Interned (vec_items t₁.rows) (vec_items t'.rows) (formed tupled ps) most at r → Reads text names t t' (tuple at xs) most r
     tuple_read xs a i us small l s =
-        let x = a us small l s.0 s.1 in
-        whole t₁ t' tupled ps (tree text names (tuple at xs)) most at r small i (read_all text names most xs us) x.1 (ap (node tupled) x.0) b
+        let x = a us small l s in
+        whole t₁ t' tupled ps (tree text names (tuple at xs)) most at r small i (at_most_eight at xs (read_all text names most xs us)) x.1 (ap (node tupled) x.0) b
 
-    pub apply_read : (f : Name) (g : ℕ) (xs : Terms) → Some g ≡ function_of (meaning_of text names f.part) → ReadsAll text names t t₁ xs most (Ok ps)
+    pub apply_read : (f : Name) (g : ℕ) (xs : Terms) → Some g ≡ function_of (meaning_of text names f.part) → ReadsAll text names t t₁ at xs most (Ok ps)
         → Interned (vec_items t₁.rows) (vec_items t'.rows) (formed (applied g) ps) most at r → Reads text names t t' (apply at f xs) most r
     apply_read f g xs e a i us small l s =
-        let x = a us small l s.1 s.2 in
-        whole t₁ t' (applied g) ps (tree text names (apply at f xs)) most at r small i (read_all text names most xs us) x.1 (ap₂ (λ o z. node (applied o) z) (go (meaning_of text names f.part) e) x.0) b
+        let x = a us small l s.1 in
+        whole t₁ t' (applied g) ps (tree text names (apply at f xs)) most at r small i (at_most_eight at xs (read_all text names most xs us)) x.1 (ap₂ (λ o z. node (applied o) z) (go (meaning_of text names f.part) e) x.0) b
       where
         go : (o : Option Meaning) → Some g ≡ function_of o → g ≡ function_number o
         go None e = absurd (cc)
@@ -96,6 +105,10 @@ then_same : (f g : ℕ → Tree) (n : ℕ) (ks : List ℕ) (us : Trees) → AllB
 then_same f g n [] us b e = refl
 then_same f g n (k ∷ ks) us b e = ap₂ model.more (e k b.0) (then_same f g n ks us b.1 e)
 
+-- more than eight parts
+pub too_many : (at : ℕ) (xs : Terms) (r : Result (List Tree) TermFault) → 8 < count xs → at_most_eight at xs r ≡ Err (Limit at)
+too_many at xs r h = ap (λ b. cond b r (Err (Limit at))) (lt-leb (count xs) 8 h)
+
 -- the numbers of some terms, and the terms that are left
 module _ (text : List ℕ) (names : List Declared) (most : ℕ) where
   pub record Rest (t : TermTable) (ks : List ℕ) (left : Terms) (all : Result (List Tree) TermFault) (whole : Trees) : Type 0 where
@@ -108,12 +121,15 @@ module _ (text : List ℕ) (names : List Declared) (most : ℕ) where
 
   module _ (t₀ : TermTable) (xs : Terms) where
     abbrev pub Onward : TermTable → List ℕ → Terms → Type 0
-    Onward t ks left = (us : List Tree) → most ≤ 65536 → Lists t₀ us → count xs ≤ 8 → SayableAll text names xs → Rest t ks left (read_all text names most xs us) (trees text names xs)
+    Onward t ks left = (us : List Tree) → most ≤ 65536 → Lists t₀ us → SayableAll text names xs → Rest t ks left (read_all text names most xs us) (trees text names xs)
+
+    pub onward_none : count xs ≤ 8 → Onward t₀ [] xs
+    onward_none few us small l s = record { mid = us; lists = l; same = refl; made = refl; said = s; room = omega arith }
 
     module _ (t t' : TermTable) (ks : List ℕ) (x : Term) (left : Terms) (o : Onward t ks (more x left)) where
       pub onward_more : AllBelow (size t) ks → Grows t t' → (k : ℕ) → Reads text names t t' x most (Ok k) → (ks' : List ℕ) → ks' ≡ take 8 (ks ++ k ∷ []) → Onward t' ks' left
-      onward_more b g k a ks' e us small l c s =
-          let r = o us small l c s in
+      onward_more b g k a ks' e us small l s =
+          let r = o us small l s in
           let q = a r.mid small r.lists r.said.0 in
           let n = length_push ks k in
           let m = r.room in
@@ -130,7 +146,17 @@ module _ (text : List ℕ) (names : List Declared) (most : ℕ) where
             room = omega arith;
           }
 
-    pub onward_done : (t : TermTable) (ps : Parts) → Onward t ps none → ReadsAll text names t₀ t xs most (Ok ps)
-    onward_done t ps o us small l c s =
-        let r = o us small l c s in
-        (then_none (tree_in t) ps ∙ r.made, record { terms = r.mid; is = r.same; lists = r.lists })
+    module _ (at : ℕ) (few : count xs ≤ 8) where
+      pub onward_done : (t : TermTable) (ps : Parts) → Onward t ps none → ReadsAll text names t₀ t at xs most (Ok ps)
+      onward_done t ps o us small l s =
+          let r = o us small l s in
+          (
+            then_none (tree_in t) ps ∙ r.made,
+            record { terms = r.mid; is = ap (λ b. cond b (read_all text names most xs us) (Err (Limit at))) (le-leb (count xs) 8 few) ∙ r.same; lists = r.lists },
+          )
+
+      -- a part is refused, and so is the whole
+      pub onward_refused : (t t' : TermTable) (ks : List ℕ) (x : Term) (left : Terms) → Onward t ks (more x left) → (f : TermFault) → Reads text names t t' x most (Err f) → ReadsAll text names t₀ t' at xs most (Err f)
+      onward_refused t t' ks x left o f a us small l s =
+          let r = o us small l s in
+          refused_as f _ _ (ap (λ b. cond b (read_all text names most xs us) (Err (Limit at))) (le-leb (count xs) 8 few) ∙ r.same) (refused_next f (read_all text names most left) _ (a r.mid small r.lists r.said.0))

@@ -16,8 +16,7 @@ use Rattle.terms.specs.declared.fault.DeclarationFault.{DeclarationFault}
 use Rattle.terms.specs.declared.fault.DeclarationFault.TheVariants.{Limit, Redeclared, Undeclared, WrongType, NoMemory}
 use Rattle.terms.specs.Scope.{Scope}
 use Rattle.terms.specs.Declaring.{kinds_of, right_of, known, declare, declared}
-use Rattle.terms.specs.Meanings.{Means}
-use Rattle.terms.specs.Narrow.{Narrow, NarrowDeclared, AllNarrow}
+use Rattle.terms.specs.Meanings.{scope_of}
 
 -- this fault, or want of memory, of which nothing is said
 abbrev pub Unfit : {A : Type 0} → Result A DeclarationFault → DeclarationFault → Type 0
@@ -27,14 +26,9 @@ Unfit q (Undeclared p) = q ≡ Err (Undeclared p)
 Unfit q (WrongType p) = q ≡ Err (WrongType p)
 Unfit q NoMemory = Unit {0}
 
--- the scope that comes out, and the declarations that stand for it
-pub record Stands (q : Result Scope DeclarationFault) (d : Declarations) : Type 0 where
-  pub scope : Scope
-  pub is : q ≡ Ok scope
-  pub means : Means d scope
-
+-- the declarations that come out, or the fault
 abbrev pub Scoped : Result Scope DeclarationFault → Declarations → Result (Unit {0}) DeclarationFault → Type 0
-Scoped q d (Ok x) = Stands q d
+Scoped q d (Ok x) = q ≡ Ok (scope_of d)
 Scoped q d (Err f) = Unfit q f
 
 -- the types of some names
@@ -57,10 +51,6 @@ function_name n k = declared_name n (meaning.Function k)
 abbrev pub function_row : Name → FunctionClass → ValueType → Vec ValueType Global → Function
 function_row n c result parameters = record { name = n.part; class = c; result = result; parameters = parameters }
 
--- a term that is a right
-abbrev pub Righting : List ℕ → Declarations → Term → Option ℕ → Type 0
-Righting text d t r = (S : Scope) → Means d S → r ≡ right_of text S t
-
 -- one name more, and nothing else
 pub record MoreNames (d d' : Declarations) (x : Declared) : Type 0 where
   pub names : vec_items d'.names ≡ vec_items d.names ++ (x ∷ [])
@@ -80,13 +70,13 @@ pub record MoreFunctions (d d' : Declarations) (x : Declared) (f : Function) : T
 module _ (text : List ℕ) (limits : Limits) where
   -- starting knowledge
   abbrev pub Knowing : Declarations → Declarations → Option ℕ → Term → Result (Unit {0}) DeclarationFault → Type 0
-  Knowing d d' who t r = (S : Scope) → Means d S → Narrow t → Scoped (known text limits who t S) d' r
+  Knowing d d' who t r = Scoped (known text limits who t (scope_of d)) d' r
 
   -- a declaration
   abbrev pub Declaring : Declarations → Declarations → syntax.Declared → Result (Unit {0}) DeclarationFault → Type 0
-  Declaring d d' x r = (S : Scope) → Means d S → NarrowDeclared x → Scoped (declare text limits x S) d' r
+  Declaring d d' x r = Scoped (declare text limits x (scope_of d)) d' r
 
   -- all declarations of a specification
   abbrev pub Declares : Specification → Result Declarations DeclarationFault → Type 0
-  Declares X (Ok d) = AllNarrow X.declarations → Stands (declared text limits X) d
-  Declares X (Err f) = AllNarrow X.declarations → Unfit (declared text limits X) f
+  Declares X (Ok d) = declared text limits X ≡ Ok (scope_of d)
+  Declares X (Err f) = Unfit (declared text limits X) f

@@ -10,9 +10,9 @@ pub mod Numbering
 pub mod Declaring
 pub mod Meanings
 pub mod Checked
-pub mod Narrow
 pub mod Reads
 pub mod Termed
 pub mod Starting
 pub mod Declares
 pub mod Counts
+pub mod Consistency

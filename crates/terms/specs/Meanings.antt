@@ -1,10 +1,8 @@
 -- What the tables of declarations stand for.
-use Rattle.std.specs.Prelude.{◌≡◌, ℕ, ◌<◌, List, map, length, get_or, vec_items, slice_index_or}
+use Rattle.std.specs.Prelude.{◌≡◌, ℕ, zero, suc, ◌<◌, List, [], ◌∷◌, ◌++◌, map, length, vec_items, slice_index_or}
 use Rattle.model.specs.Trees.{Tree, leaf}
 use Rattle.terms.specs.declared.declarations.Declarations.{Declarations}
-use Rattle.terms.specs.declared.declarations.Declared.{Declared}
 use Rattle.terms.specs.declared.declarations.Function.{Function}
-use Rattle.terms.specs.declared.declarations.Meaning.TheVariants as meaning
 use Rattle.terms.specs.declared.declarations.Start.{Start}
 use Rattle.terms.specs.declared.table.TermTable.{TermTable}
 use Rattle.terms.specs.Terms.{tree_in, size}
@@ -22,13 +20,24 @@ pub record Lists (t : TermTable) (us : List Tree) : Type 0 where
   pub long : length us ≡ size t
   pub each : (k : ℕ) → k < size t → slice_index_or us k (leaf 0) ≡ tree_in t k
 
-pub record Means (d : Declarations) (S : Scope) : Type 0 where
-  pub names : vec_items d.names ≡ S.names
-  pub functions : map signature_of (vec_items d.functions) ≡ S.functions
-  -- a function's name stands for one of the functions
-  pub defined : (k f : ℕ) (n : Declared) → k < length (vec_items d.names) → (get_or (vec_items d.names) k n).meaning ≡ meaning.Function f → f < length (vec_items d.functions)
-  pub starts : map (given_in d.terms) (vec_items d.starts) ≡ S.starts
-  -- what a party starts from is a term of the table
-  pub started : (k : ℕ) (s : Start) → k < length (vec_items d.starts) → (get_or (vec_items d.starts) k s).term < size d.terms
-  pub rights : vec_items d.rights ≡ S.rights
-  pub terms : Lists d.terms S.terms
+-- the first k trees, by their numbers
+abbrev pub first_trees : (ℕ → Tree) → ℕ → List Tree
+first_trees f zero = []
+first_trees f (suc k) = first_trees f k ++ (f k ∷ [])
+
+-- the terms of a table, in the order of their numbers
+unfoldable pub trees_of : TermTable → List Tree
+trees_of t = first_trees (tree_in t) (size t)
+
+abbrev pub table_of : Declarations → TermTable
+table_of d = d.terms
+
+-- what is declared
+abbrev pub scope_of : Declarations → Scope
+scope_of d = record {
+  names = vec_items d.names;
+  functions = map signature_of (vec_items d.functions);
+  starts = map (given_in d.terms) (vec_items d.starts);
+  rights = vec_items d.rights;
+  terms = trees_of d.terms;
+}

@@ -3,7 +3,7 @@ use Rattle.std.specs.Prelude.{ℕ, Bool, false, cond, ◌||◌, List, [], ◌∷
 use Rattle.std.specs.Option.{unwrap_or}
 use Rattle.model.specs.Trees as model
 use Rattle.model.specs.Trees.{Tree, Trees, tupled, applied, leaf, node, eq_tree}
-use Rattle.syntax.specs.Specs.{Term, name, tuple, crypt, apply, Terms, none, more}
+use Rattle.syntax.specs.Specs.{Term, name, tuple, crypt, apply, Terms, none, more, count}
 use Rattle.terms.specs.declared.declarations.Declared.{Declared}
 use Rattle.terms.specs.declared.declarations.Meaning.{Meaning}
 use Rattle.terms.specs.declared.declarations.Meaning.TheVariants.{Value, Function}
@@ -42,14 +42,18 @@ abbrev pub next : Result (List Tree) TermFault → (List Tree → Result (List T
 next (Ok us) f = f us
 next (Err e) f = Err e
 
+-- a compound has at most eight parts: one of more is refused at its bracket
+abbrev pub at_most_eight : ℕ → Terms → Result (List Tree) TermFault → Result (List Tree) TermFault
+at_most_eight at ts r = cond (nat_le (count ts) 8) r (Err (Limit at))
+
 module _ (text : List ℕ) (names : List Declared) (most : ℕ) where
   -- a term's parts are read before the whole, from left to right
   abbrev mutual
     pub read : Term → List Tree → Result (List Tree) TermFault
     read (name at p) us = noted most at (tree text names (name at p)) us
-    read (tuple at ts) us = next (read_all ts us) (noted most at (tree text names (tuple at ts)))
+    read (tuple at ts) us = next (at_most_eight at ts (read_all ts us)) (noted most at (tree text names (tuple at ts)))
     read (crypt at t k) us = next (next (read t us) (read k)) (noted most at (tree text names (crypt at t k)))
-    read (apply at f ts) us = next (read_all ts us) (noted most at (tree text names (apply at f ts)))
+    read (apply at f ts) us = next (at_most_eight at ts (read_all ts us)) (noted most at (tree text names (apply at f ts)))
 
     pub read_all : Terms → List Tree → Result (List Tree) TermFault
     read_all none us = Ok us

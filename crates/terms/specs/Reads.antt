@@ -2,7 +2,7 @@
 use Rattle.std.specs.Prelude.{◌≡◌, ℕ, ◌≤◌, true, List, is_some, Some, Ok, Err, Result}
 use Rattle.model.specs.Trees.{Tree}
 use Rattle.program.specs.declared.parts.Parts.{Parts}
-use Rattle.syntax.specs.Specs.{Term, name, tuple, crypt, apply, Terms, none, more, count}
+use Rattle.syntax.specs.Specs.{Term, name, tuple, crypt, apply, Terms, none, more}
 use Rattle.terms.specs.declared.declarations.Declarations.{Declarations}
 use Rattle.terms.specs.declared.declarations.Declared.{Declared}
 use Rattle.terms.specs.declared.declarations.Meaning.TheVariants as meaning
@@ -12,7 +12,7 @@ use Rattle.terms.specs.declared.table.TermTable.{TermTable}
 use Rattle.terms.specs.Shapes as shapes
 use Rattle.terms.specs.Terms.{tree_in}
 use Rattle.terms.specs.Scope.{number_of, meaning_of}
-use Rattle.terms.specs.Numbering.{tree, trees, read, read_all}
+use Rattle.terms.specs.Numbering.{tree, trees, at_most_eight, read, read_all}
 use Rattle.terms.specs.Meanings.{Lists}
 
 -- only the terms may change
@@ -41,13 +41,13 @@ Gives t u q (Ok k) = (tree_in t k ≡ u) × Noted t q
 Gives t u q (Err f) = Refused q f
 
 module _ (text : List ℕ) (names : List Declared) where
-  -- names are declared, what is applied is a function, and a compound has at most eight parts
+  -- names are declared, and what is applied is a function
   abbrev mutual
     pub Sayable : Term → Type 0
     Sayable (name at p) = is_some (number_of text names p) ≡ true
-    Sayable (tuple at ts) = (count ts ≤ 8) × SayableAll ts
+    Sayable (tuple at ts) = SayableAll ts
     Sayable (crypt at t k) = Sayable t × Sayable k
-    Sayable (apply at f ts) = ((g : ℕ) × (meaning_of text names f.part ≡ Some (meaning.Function g))) × (count ts ≤ 8) × SayableAll ts
+    Sayable (apply at f ts) = ((g : ℕ) × (meaning_of text names f.part ≡ Some (meaning.Function g))) × SayableAll ts
 
     pub SayableAll : Terms → Type 0
     SayableAll none = Unit {0}
@@ -57,9 +57,9 @@ module _ (text : List ℕ) (names : List Declared) where
   Reads t t' x most r = (us : List Tree) → most ≤ 65536 → Lists t us → Sayable x → Gives t' (tree text names x) (read text names most x us) r
 
   -- the numbers of some terms
-  abbrev pub GivesAll : TermTable → ℕ → Terms → List Tree → Result Parts TermFault → Type 0
-  GivesAll t most xs us (Ok ps) = (shapes.trees (tree_in t) ps ≡ trees text names xs) × Noted t (read_all text names most xs us)
-  GivesAll t most xs us (Err f) = Refused (read_all text names most xs us) f
+  abbrev pub GivesAll : TermTable → Terms → Result (List Tree) TermFault → Result Parts TermFault → Type 0
+  GivesAll t xs q (Ok ps) = (shapes.trees (tree_in t) ps ≡ trees text names xs) × Noted t q
+  GivesAll t xs q (Err f) = Refused q f
 
-  abbrev pub ReadsAll : TermTable → TermTable → Terms → ℕ → Result Parts TermFault → Type 0
-  ReadsAll t t' xs most r = (us : List Tree) → most ≤ 65536 → Lists t us → count xs ≤ 8 → SayableAll xs → GivesAll t' most xs us r
+  abbrev pub ReadsAll : TermTable → TermTable → ℕ → Terms → ℕ → Result Parts TermFault → Type 0
+  ReadsAll t t' at xs most r = (us : List Tree) → most ≤ 65536 → Lists t us → SayableAll xs → GivesAll t' xs (at_most_eight at xs (read_all text names most xs us)) r

@@ -1,5 +1,5 @@
 -- What the rows of a table are as shapes, and when a table is sound.
-use Rattle.std.specs.Prelude.{◌≡◌, ℕ, ◌<◌, ◌≤◌, List, map, length, slice_index, slice_index_or}
+use Rattle.std.specs.Prelude.{◌≡◌, ℕ, ◌<◌, ◌≤◌, List, map, length, take, slice_index, slice_index_or}
 use Rattle.model.specs.Trees.{Tree}
 use Rattle.program.specs.Actions.{head_of}
 use Rattle.terms.specs.declared.term.TermRow.{TermRow}
@@ -29,6 +29,10 @@ Formed rows = (k : ℕ) → k < length rows → two_parts (shape_of (row_at rows
 
 abbrev pub Distinct : List TermRow → Type 0
 Distinct rows = (i j : ℕ) → (i < length rows) × (j < length rows) → shape_of (row_at rows i) ≡ shape_of (row_at rows j) → i ≤ j
+
+-- the rows that there were stand first
+abbrev pub Begins : List TermRow → List TermRow → Type 0
+Begins rows rows' = take (length rows) rows' ≡ rows
 
 -- what is known of a row that was read
 pub record Stands (rows : List TermRow) (k : ℕ) (row : TermRow) : Type 0 where

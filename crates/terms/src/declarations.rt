@@ -1,7 +1,7 @@
 // What is declared: names with their types, functions, starting knowledge; and the terms, by number.
-ghost use Rattle.std.specs.Prelude.{◌≡◌, ◌≤◌, [], vec_len};
-ghost use Rattle.terms.specs.Scope.{number_of, meaning_of, function_of};
-ghost use Rattle.terms.specs.Declaring.{party_number};
+ghost use Rattle.std.specs.Prelude.{◌≡◌, ◌≤◌, vec_len};
+ghost use Rattle.terms.specs.Consistency.{Defined, Started};
+ghost use Rattle.terms.specs.Terms.{size};
 
 use crate::fault::TermFault;
 use crate::table::TermTable;
@@ -10,67 +10,89 @@ use syntax::spec::Name;
 use syntax::symbol::FunctionClass;
 use text::part::Part;
 
+/// The type of a value.
 #[derive(Clone, Copy, PartialEq, Eq)]
 pub enum ValueType {
+    /// any value
     Number,
+    /// the name of a party
     Principal,
 }
 
-// What a name stands for.
+/// What a name stands for.
 #[derive(Clone, Copy)]
 pub enum Meaning {
-    // a shared name is never made
+    /// a value; a shared one is never made
     Value { kind: ValueType, shared: bool },
-    // a function, by its number
+    /// a function, by its number
     Function(u8),
 }
 
+/// A name with what it stands for.
 #[derive(Clone, Copy)]
 pub struct Declared {
+    /// the bytes of the name, as a part of the text
     pub name: Part,
+    /// what it stands for
     pub meaning: Meaning,
 }
 
-// Its name stands here too, since a program's text goes by the number of a function.
+/// A function. Its name stands here too, since a program's text goes by the number of a function.
 #[derive(Drop)]
 pub struct Function {
+    /// the bytes of its name, as a part of the text
     pub name: Part,
+    /// who may apply it, and whether an application hides its arguments
     pub class: FunctionClass,
+    /// the type of an application
     pub result: ValueType,
+    /// the types of the arguments
     pub parameters: Vec<ValueType>,
 }
 
-// A term that a party starts from: the one of that name, or everybody.
+/// A term that a party starts from: the one of that name, or everybody.
 #[derive(Clone, Copy)]
 pub struct Start {
+    /// the number of the party's name, or none for everybody
     pub knower: Option<u8>,
+    /// the number of the term
     pub term: u16,
 }
 
-// A function that a party may apply though it is secret.
+/// A function that a party may apply though it is secret.
 #[derive(Clone, Copy)]
 pub struct Right {
+    /// the number of the party's name, or none for everybody
     pub knower: Option<u8>,
+    /// the number of the function
     pub function: u8,
 }
 
-// That they mean a scope is said in clauses, since it is a relation: an invariant in their place would ask more of who makes
-// declarations from these fields.
+/// What a specification declares. A name goes by its place in the list of names, a function by its place in the list of
+/// functions, and a term by its number in the table.
 #[derive(Drop)]
 pub struct Declarations {
-    pub names: Vec<Declared>,
-    pub functions: Vec<Function>,
-    pub starts: Vec<Start>,
-    pub rights: Vec<Right>,
-    pub terms: TermTable,
+    pub(crate) names: Vec<Declared>,
+    pub(crate) functions: Vec<Function>,
+    pub(crate) starts: Vec<Start>,
+    pub(crate) rights: Vec<Right>,
+    pub(crate) terms: TermTable,
     ghost few: { vec_len names ≤ 128 },
     ghost fewer: { vec_len functions ≤ vec_len names },
+    ghost defined: { Defined names.items (vec_len functions) },
+    ghost started: { Started starts.items (size terms) },
 }
 
 impl Declarations {
+    ghost use Rattle.std.specs.Prelude.{◌≡◌, map};
+    ghost use Rattle.terms.specs.Scope.{nothing_declared, number_of, meaning_of, function_of};
+    ghost use Rattle.terms.specs.Declaring.{principal};
+    ghost use Rattle.terms.specs.Meanings.{scope_of, table_of, signature_of, given_in};
+
+    /// Nothing is declared.
+    #[tactic(auto, unfolding(crate::specs::Meanings::trees_of))]
     pub fn new(heap: Global) -> Declarations
-        ensures values { (result.names.items ≡ []) × (result.functions.items ≡ []) }
-        ensures known { (result.starts.items ≡ []) × (result.rights.items ≡ []) × (result.terms.rows.items ≡ []) }
+        ensures { scope_of result ≡ nothing_declared }
     {
         Declarations {
             names: Vec::new(heap),
@@ -81,9 +103,38 @@ impl Declarations {
         }
     }
 
-    // The number of a name: its place in the list. A map would own the names a second time.
+    /// The names, in the order of their declaration.
+    pub fn names(&self) -> &[Declared]
+        ensures { result.now ≡ (scope_of self.now).names }
+    {
+        &self.names
+    }
+
+    /// The functions, in the order of their declaration.
+    pub fn functions(&self) -> &[Function]
+        ensures { map signature_of result.now ≡ (scope_of self.now).functions }
+    {
+        &self.functions
+    }
+
+    /// The terms that parties start from, in the order of declaration.
+    pub fn starts(&self) -> &[Start]
+        ensures { map (given_in (table_of self.now)) result.now ≡ (scope_of self.now).starts }
+    {
+        &self.starts
+    }
+
+    /// The terms by number.
+    pub fn terms(&self) -> &TermTable
+        ensures { result.now ≡ table_of self.now }
+    {
+        &self.terms
+    }
+
+    // A map would own the names a second time.
+    /// The number of a name of the text.
     pub fn find(&self, text: &[u8], name: Part) -> Option<u8>
-        ensures { result ≡ number_of text.now self.now.names.items name }
+        ensures { result ≡ number_of text.now (scope_of self.now).names name }
     {
         let wanted = name.of(text);
         let number = self
@@ -93,9 +144,9 @@ impl Declarations {
         Some(number as u8)
     }
 
-    // What a name stands for.
+    /// What a name of the text stands for.
     pub fn meaning(&self, text: &[u8], name: Part) -> Option<Meaning>
-        ensures { result ≡ meaning_of text.now self.now.names.items name }
+        ensures { result ≡ meaning_of text.now (scope_of self.now).names name }
     {
         let number = self.find(text, name)?;
         Some(self.names.get(number as usize)?.meaning)
@@ -103,7 +154,7 @@ impl Declarations {
 
     // The number of the function that a name stands for.
     pub(crate) fn function_of(&self, text: &[u8], name: Part) -> Option<u8>
-        ensures { result ≡ function_of (meaning_of text.now self.now.names.items name) }
+        ensures { result ≡ function_of (meaning_of text.now (scope_of self.now).names name) }
     {
         match self.meaning(text, name)? {
             Meaning::Function(function) => Some(function),
@@ -111,9 +162,9 @@ impl Declarations {
         }
     }
 
-    // The number of a party.
+    /// The number of a party, by its name. A name that is not declared, or is no principal, is refused at its place.
     pub fn principal(&self, text: &[u8], name: Name) -> Result<u8, TermFault>
-        ensures { result ≡ party_number name (number_of text.now self.now.names.items name.part) (meaning_of text.now self.now.names.items name.part) }
+        ensures { result ≡ principal text.now (scope_of self.now) name }
     {
         let at = name.at;
         let Some(number) = self.find(text, name.part) else {

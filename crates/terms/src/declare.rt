@@ -1,8 +1,10 @@
 // Reading the declarations, in their order.
-ghost use Rattle.std.specs.Prelude.{◌≡◌, ◌+◌, ◌<◌, vec_len, OnOk};
+ghost use Rattle.std.specs.Prelude.{◌≡◌, ◌<◌, vec_len, OnOk};
 ghost use Rattle.syntax.specs.Views.{term_of, declared_of, specification_of};
-ghost use Rattle.terms.specs.Declaring.{fresh, kind_of};
-ghost use Rattle.terms.specs.Declares.{Done, MoreNames, MoreFunctions, Kinds, Righting, Knowing, Declaring, Declares, declared_name, function_name, function_row};
+ghost use Rattle.terms.specs.Declaring.{fresh, kind_of, right_of};
+ghost use Rattle.terms.specs.Meanings.{scope_of};
+ghost use Rattle.terms.specs.declared.declarations.Meaning.TheVariants.{Value};
+ghost use Rattle.terms.specs.Declares.{Done, MoreNames, MoreFunctions, Kinds, Knowing, Declaring, Declares, declared_name, function_name, function_row};
 
 use crate::declarations::{Declarations, Declared, Function, Meaning, Right, Start, ValueType};
 use crate::fault::DeclarationFault;
@@ -20,6 +22,7 @@ struct Reading<'a> {
 }
 
 impl Declarations {
+    /// What a specification declares. The first declaration that is at fault is refused, at the node that is.
     pub fn read(
         heap: Global,
         text: &[u8],
@@ -43,8 +46,7 @@ impl Declarations {
             Declaration::Value { name, kind, shared } => {
                 self.unused(reading, *name)?;
                 let kind = type_of(reading.text, *kind)?;
-                let shared = *shared;
-                self.name(*name, Meaning::Value { kind, shared })
+                self.value(*name, kind, *shared)
             }
             Declaration::Function {
                 name,
@@ -68,7 +70,7 @@ impl Declarations {
     // A name is declared once.
     fn unused(&self, reading: Reading, name: Name) -> Result<(), DeclarationFault>
         ensures room { OnOk result (vec_len self.now.names < 128) }
-        ensures unused { result ≡ fresh reading.entry.text.now reading.entry.limits self.now.names.items name }
+        ensures unused { result ≡ fresh reading.entry.text.now reading.entry.limits (scope_of self.now).names name }
     {
         let at = name.at;
         if self.find(reading.text, name.part).is_some() {
@@ -81,15 +83,13 @@ impl Declarations {
     }
 
     // Called behind `unused`, which saw that there is room.
-    fn name(&mut self, name: Name, meaning: Meaning) -> Result<(), DeclarationFault>
+    fn value(&mut self, name: Name, kind: ValueType, shared: bool) -> Result<(), DeclarationFault>
         requires { vec_len self.old.names < 128 }
-        ensures longer { OnOk result (vec_len self.new.names ≡ vec_len self.old.names + 1) }
-        ensures same { self.new.functions ≡ self.old.functions }
-        ensures added { Done (MoreNames self.old self.new (declared_name name meaning)) result }
+        ensures { Done (MoreNames self.old self.new (declared_name name (Value kind shared))) result }
     {
         self.names.push(Declared {
             name: name.part,
-            meaning,
+            meaning: Meaning::Value { kind, shared },
         })?;
         Ok(())
     }
@@ -105,13 +105,17 @@ impl Declarations {
         ensures { Done (MoreFunctions self.old self.new (function_name name (vec_len self.old.functions)) (function_row name class res parameters)) result }
     {
         let number = self.functions.len() as u8;
-        self.name(name, Meaning::Function(number))?;
-        self.functions.push(Function {
+        self.functions.reserve(1)?;
+        self.names.push(Declared {
+            name: name.part,
+            meaning: Meaning::Function(number),
+        })?;
+        self.functions.push_reserved(Function {
             name: name.part,
             class,
             result: res,
             parameters,
-        })?;
+        });
         Ok(())
     }
 
@@ -134,7 +138,7 @@ impl Declarations {
     }
 
     fn right(&self, text: &[u8], term: &Term) -> Option<u8>
-        ensures { Righting text.now self.now (term_of term.now) result }
+        ensures { result ≡ right_of text.now (scope_of self.now) (term_of term.now) }
     {
         let Term::Name(name) = term else {
             return None;

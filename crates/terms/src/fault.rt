@@ -5,7 +5,7 @@ ghost use Rattle.terms.specs.declared.fault.TermFault.TheVariants as term_faults
 ghost use Rattle.terms.specs.declared.fault.DeclarationFault.TheVariants as declaration_faults;
 
 use base::{Cause, Layer, Refusal};
-use std::alloc::AllocFailed;
+use std::alloc::{AllocError, AllocFailed};
 
 // A term is refused, in a declaration or in a line.
 #[derive(Clone, Copy, PartialEq, Eq, Debug)]
@@ -76,6 +76,14 @@ impl<T: Drop> From<AllocFailed<T>> for DeclarationFault {
     ghost from_gives = { λ _ r. r ≡ declaration_faults.NoMemory };
 
     fn from(_refused: AllocFailed<T>) -> DeclarationFault {
+        DeclarationFault::NoMemory
+    }
+}
+
+impl From<AllocError> for DeclarationFault {
+    ghost from_gives = { λ _ r. r ≡ declaration_faults.NoMemory };
+
+    fn from(_error: AllocError) -> DeclarationFault {
         DeclarationFault::NoMemory
     }
 }

@@ -1,50 +1,43 @@
 // What a party starts from, and what may be made.
-ghost use Rattle.std.specs.Prelude.{◌≡◌, ◌&&◌, map, drop, IfOk, IfErr, nat_lt};
+ghost use Rattle.std.specs.Prelude.{◌≡◌, map, drop, IfOk, IfErr};
 ghost use Rattle.terms.specs.declared.fault.TermFault.TheVariants.{NoMemory};
 ghost use Rattle.terms.specs.Shapes.{AllBelow};
 ghost use Rattle.terms.specs.Terms.{size, tree_in};
-ghost use Rattle.terms.specs.Scope.{Scope};
-ghost use Rattle.terms.specs.Meanings.{Means};
+ghost use Rattle.terms.specs.Meanings.{scope_of, table_of};
 ghost use Rattle.terms.specs.Starting.{concerns, given_to, has_right, is_makeable, made_among};
 
-use crate::declarations::{Declarations, Declared, Meaning, Start, ValueType};
+use crate::declarations::{Declarations, Declared, Meaning, ValueType};
 use crate::fault::TermFault;
 use crate::term::TermRow;
 use std::alloc::Global;
 
 impl Declarations {
-    // The terms that a party of this name starts from, in the order of declaration.
+    /// The numbers of the terms that a party of this name starts from, in the order of declaration.
     pub fn starting_terms(&self, heap: Global, name: u8) -> Result<Vec<u16>, TermFault>
-        ensures below { IfOk result (λ v. AllBelow (size self.now.terms) v.items) }
-        ensures given { IfOk result (λ v. (S : Scope) → Means self.now S → map (tree_in self.now.terms) v.items ≡ given_to name S.starts) }
+        ensures below { IfOk result (λ v. AllBelow (size (table_of self.now)) v.items) }
+        ensures given { IfOk result (λ v. map (tree_in (table_of self.now)) v.items ≡ given_to name (scope_of self.now).starts) }
         ensures refused { IfErr result (λ e. e ≡ NoMemory) }
     {
         let mut terms = Vec::new(heap);
         for start in &self.starts {
-            if self.starts_from(*start, name) {
+            if is_for(start.knower, name) {
                 terms.push(start.term)?;
             }
         }
         Ok(terms)
     }
 
-    fn starts_from(&self, start: Start, name: u8) -> bool
-        ensures { result ≡ (concerns start.knower name && nat_lt start.term (size self.now.terms)) }
-    {
-        is_for(start.knower, name) && (start.term as usize) < self.terms.len()
-    }
-
-    // Whether a party of this name may apply a function though it is secret.
+    /// Whether a party of this name may apply a function though it is secret.
     pub fn has_right(&self, name: u8, function: usize) -> bool
-        ensures { result ≡ has_right name function self.now.rights.items }
+        ensures { result ≡ has_right name function (scope_of self.now).rights }
     {
         self.rights.iter().any(|right| right.function as usize == function
             && is_for(right.knower, name))
     }
 
-    // The names that were numbered as terms from `before` on and may be made: no shared ones, and no principals.
+    /// The names that were numbered as terms from `before` on and may be made: no shared ones, and no principals.
     pub fn made_since(&self, heap: Global, before: usize) -> Result<Vec<u8>, TermFault>
-        ensures made { IfOk result (λ v. (S : Scope) → Means self.now S → v.items ≡ made_among S.names (drop before S.terms)) }
+        ensures made { IfOk result (λ v. v.items ≡ made_among (scope_of self.now).names (drop before (scope_of self.now).terms)) }
         ensures refused { IfErr result (λ e. e ≡ NoMemory) }
     {
         let mut made = Vec::new(heap);

@@ -1,9 +1,9 @@
 // The types of a term: each node before its parts, and those from left to right.
 ghost use Rattle.std.specs.Prelude.{◌≡◌};
 ghost use Rattle.syntax.specs.Views.{term_of, terms_of};
-ghost use Rattle.terms.specs.Scope.{Scope, meaning_of};
+ghost use Rattle.terms.specs.Scope.{meaning_of};
 ghost use Rattle.terms.specs.Typing.{fits as type_fits, name_fits, applied, typed, typed_all};
-ghost use Rattle.terms.specs.Meanings.{Means};
+ghost use Rattle.terms.specs.Meanings.{scope_of};
 ghost use Rattle.terms.specs.Checked.{found};
 
 use crate::declarations::{Declarations, Function, Meaning, ValueType};
@@ -14,7 +14,7 @@ impl Declarations {
     // Whether a term has the type that is wanted.
     #[cycle(check_check_parts)]
     pub(crate) fn check(&self, text: &[u8], term: &Term, wanted: ValueType) -> Result<(), TermFault>
-        ensures { (S : Scope) → Means self.now S → result ≡ typed text.now S (term_of term.now) wanted }
+        ensures { result ≡ typed text.now (scope_of self.now) (term_of term.now) wanted }
     {
         match term {
             Term::Name(name) => self.check_name(text, *name, wanted),
@@ -54,7 +54,7 @@ impl Declarations {
         parts: &[Term],
         wanted: &[ValueType],
     ) -> Result<(), TermFault>
-        ensures { (S : Scope) → Means self.now S → result ≡ typed_all text.now S (terms_of parts.now) wanted.now }
+        ensures { result ≡ typed_all text.now (scope_of self.now) (terms_of parts.now) wanted.now }
     {
         for (place, part) in parts.iter().enumerate() {
             let wanted = wanted.get(place).copied().unwrap_or(ValueType::Number);
@@ -64,7 +64,7 @@ impl Declarations {
     }
 
     fn check_name(&self, text: &[u8], name: Name, wanted: ValueType) -> Result<(), TermFault>
-        ensures { result ≡ name_fits name.at (meaning_of text.now self.now.names.items name.part) wanted }
+        ensures { result ≡ name_fits name.at (meaning_of text.now (scope_of self.now).names name.part) wanted }
     {
         let at = name.at;
         match self.meaning(text, name.part) {
@@ -76,7 +76,7 @@ impl Declarations {
 
     // The function of an application.
     fn applied(&self, text: &[u8], name: Name) -> Result<&Function, TermFault>
-        ensures { (S : Scope) → Means self.now S → found result ≡ applied S.functions name (meaning_of text.now S.names name.part) }
+        ensures { found result ≡ applied (scope_of self.now).functions name (meaning_of text.now (scope_of self.now).names name.part) }
     {
         let at = name.at;
         let Some(meaning) = self.meaning(text, name.part) else {

@@ -3,13 +3,13 @@ use Rattle.terms.proofs.Adding.{value_added, function_added}
 use Rattle.terms.proofs.declarations.Declarations.add.Goals as goal
 
 pub returns-in_ok-kind-in-Value : goal.returns-in_ok-kind-in-Value
-returns-in_ok-kind-in-Value c = λ S m n.
+returns-in_ok-kind-in-Value c =
     rw c.in-Value.is
-    (value_added c.args.reading.text.now c.args.reading.limits c.args.self.now c.name.new.self S m c.in-Value.name c.in_ok-unused-in-Value.ensures.unused c.in-Value.kind c.in-Value.shared
-    c.in_ok-kind-in-Value.kind c.in_ok-kind-in-Value.ensures c.name.result c.name.ensures.added)
+    (value_added c.args.reading.text.now c.args.reading.limits c.args.self.now c.value.new.self c.in-Value.name c.in_ok-unused-in-Value.ensures.unused c.in-Value.kind c.in-Value.shared
+    c.in_ok-kind-in-Value.kind c.in_ok-kind-in-Value.ensures c.value.result c.value.ensures)
 
 pub returns-in_ok-parameters-in-Function : goal.returns-in_ok-parameters-in-Function
-returns-in_ok-parameters-in-Function c = λ S m n.
+returns-in_ok-parameters-in-Function c =
     rw c.in-Function.is
-    (function_added c.args.reading.text.now c.args.reading.limits c.args.self.now c.function.new.self S m c.in-Function.name c.in_ok-unused-in-Function.ensures.unused c.in-Function.class c.in-Function.result (vec_items c.in-Function.parameters)
+    (function_added c.args.reading.text.now c.args.reading.limits c.args.self.now c.function.new.self c.in-Function.name c.in_ok-unused-in-Function.ensures.unused c.in-Function.class c.in-Function.result (vec_items c.in-Function.parameters)
     c.in_ok-result-in-Function.result c.in_ok-result-in-Function.ensures c.in_ok-parameters-in-Function.parameters (rw c.deref.ensures.value at c.in_ok-parameters-in-Function.ensures) c.function.result c.function.ensures)

@@ -4,6 +4,6 @@ use Rattle.terms.proofs.Checking.{function_found}
 use Rattle.terms.proofs.declarations.Declarations.applied.Goals as goal
 
 pub returns : goal.returns
-returns c = λ S m.
+returns c =
     ap found c.ok_or.ensures.value
-    ∙ function_found c.args.text.now c.args.self.now S m c.args.name c.in-Function.number (cc) c.deref.result.now c.deref.ensures.value c.get.result c.get.ensures.lookup
+    ∙ function_found c.args.text.now c.args.self.now c.args.name c.in-Function.number (cc) c.deref.result.now c.deref.ensures.value c.get.result c.get.ensures.lookup

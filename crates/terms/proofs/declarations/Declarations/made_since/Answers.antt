@@ -1,7 +1,8 @@
-use Rattle.std.proofs.Common.{drop, cond, Some, None, vec_items, sym, ap, ◌∙◌, rules}
+use Rattle.std.proofs.Common.{cond, Some, None, vec_items, sym, ap, ◌∙◌, rules}
 use Rattle.std.specs.List.{filter_map}
 use Rattle.std.proofs.lemmas.List.{take_all}
-use Rattle.terms.specs.Starting.{made_among}
+use Rattle.terms.specs.Meanings.{trees_of}
+use Rattle.terms.proofs.ListedTrees.{lists_of}
 use Rattle.terms.proofs.Collecting.{made_name, filter_map_more, filter_map_not, made_same}
 use Rattle.terms.proofs.declarations.Declarations.made_since.Goals as goal
 use Rattle.terms.proofs.declarations.Declarations.made_since.Goals.{in-Name+then-may_be_made+in_ok-push, in_default, in_default-via-in-Compound-1, in_default-via-in-Name+else-may_be_made}
@@ -26,8 +27,8 @@ loop-row-preserved c =
     ]
 
 pub returns-clause-made : goal.returns-clause-made
-returns-clause-made c = λ S m.
+returns-clause-made c =
+    let t = c.args.self.now.terms in
     c.loop-row.invariant
     ∙ ap (filter_map (made_name (vec_items c.args.self.now.names))) (take_all c.loop-row.row-index c.since-row-items.result.now c.loop-row-test.false ∙ c.since-row-items.ensures)
-    ∙ made_same c.args.self.now.terms S.terms m.terms (vec_items c.args.self.now.names) c.args.before
-    ∙ ap (λ ns. made_among ns (drop c.args.before S.terms)) m.names
+    ∙ made_same t (trees_of t) (lists_of t) (vec_items c.args.self.now.names) c.args.before
