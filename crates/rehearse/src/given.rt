@@ -52,7 +52,7 @@ pub(crate) fn build<S: Store>(
         }
         let made = make(
             store,
-            declarations.terms.row(term),
+            declarations.terms().row(term),
             handles.as_slice(),
             numbers,
         );

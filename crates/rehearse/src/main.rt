@@ -84,7 +84,7 @@ fn rehearse(
     commands: &[Command],
 ) -> anyhow::Result<String> {
     let text = input.tree;
-    let functions = function_names(heap, text, &plan.translation.declarations.functions)?;
+    let functions = function_names(heap, text, plan.translation.declarations.functions())?;
     let scene = Scene {
         heap,
         text,

@@ -18,7 +18,7 @@ pub(crate) fn place_of(text: &[u8], translation: &Translation, name: Name) -> us
 // How many terms the declarations number: each is one that somebody starts from, or within one before it.
 pub(crate) fn given_terms(declarations: &Declarations) -> usize {
     let mut count: usize = 0;
-    for start in &declarations.starts {
+    for start in declarations.starts() {
         count = count.max(start.term as usize + 1);
     }
     count

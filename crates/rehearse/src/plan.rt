@@ -28,7 +28,7 @@ pub(crate) struct Plan {
 
 impl Plan {
     pub(crate) fn new(heap: Global, text: &[u8], translation: Translation) -> anyhow::Result<Plan> {
-        let counts = count_parameters(heap, &translation.declarations.functions)?;
+        let counts = count_parameters(heap, translation.declarations.functions())?;
         let exchanges = read_exchanges(heap, text, &translation)?;
         Ok(Plan {
             translation,

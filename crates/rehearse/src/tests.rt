@@ -93,7 +93,7 @@ fn a_script_is_performed(rt: HostRuntime) -> Result<(), Fail> {
     let Ok(commands) = script::read(heap, &plan, PAIRING, text)? else {
         return Err(Fail::new("a line is not read"));
     };
-    let functions = function_names(heap, PAIRING, &plan.translation.declarations.functions)?;
+    let functions = function_names(heap, PAIRING, plan.translation.declarations.functions())?;
     let scene = Scene {
         heap,
         text: PAIRING,

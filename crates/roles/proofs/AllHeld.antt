@@ -30,7 +30,7 @@ use Rattle.roles.specs.Players.{player_of}
 use Rattle.roles.specs.Playing.{Player}
 use Rattle.roles.specs.Specified.{specified}
 use Rattle.roles.specs.Stages.{Stage, refused_by, lines}
-use Rattle.roles.specs.Staging.{stage_of, Staged}
+use Rattle.roles.specs.Staging.{stage_of}
 use Rattle.roles.specs.Translating.{translation}
 use Rattle.roles.specs.TranslationLaw.{no_roles, Declares}
 use Rattle.roles.proofs.Holding.{rows_pass}
@@ -94,15 +94,15 @@ module _ (limits : Limits) (text : List ℕ) where
         lined = as_good Lines (lines limits text [] b.mid.lines (no_roles c.mid)) G c.second;
       }
 
-  pub all_held : (T : Translation) → Staged (translation limits text) T → AllHeld T
+  pub all_held : (T : Translation) → translation limits text ≡ Ok (stage_of T) → AllHeld T
   all_held T s =
-      let G = stage_of T s.scope in
-      let a = accepts G s.is in
+      let G = stage_of T in
+      let a = accepts G s in
       let c = declared_counted text limits a.spec a.scope a.declares.scope in
       let w = (translation_law limits text).translates a.spec a.scope G a.declares a.lined in
       let typed = messages_typed text limits a.spec a.scope a.declares.scope a.spec.lines G a.lined in
       let left = (accepted_so_far text limits a.spec a.scope a.declares.scope a.spec.lines [] G a.lined).scope in
-      let same : counts_of T ≡ counts a.scope.functions = ap counts (s.means.functions ∙ ap (λ (z : Scope). z.functions) left) in
+      let same : counts_of T ≡ counts a.scope.functions = ap counts (ap (λ (z : Scope). z.functions) left) in
       record {
         each = subst⁻¹ (λ cs. Every (λ (r : Role). passes cs (vec_items r.rows) ≡ true) (vec_items T.roles)) same
             (each_held (counts a.scope.functions) (specified text a.scope a.spec.lines) w.accepted (λ d. specified_counted text a.scope c d a.spec.lines typed) T.declarations.terms 0 (vec_items T.roles)

@@ -21,7 +21,7 @@ use Rattle.roles.specs.declared.translation.Translation.{Translation}
 use Rattle.roles.specs.declared.translation_fault.TranslationFault.{TranslationFault}
 use Rattle.roles.specs.declared.translation_fault.TranslationFault.TheVariants.{Text, Shape, Declarations, Lines}
 use Rattle.roles.specs.Stages.{Stage, refused_by, lines}
-use Rattle.roles.specs.Staging.{Staged, Refused, Translates}
+use Rattle.roles.specs.Staging.{stage_of, Refused, Translates}
 use Rattle.roles.specs.Translating.{translation}
 
 module _ (limits : Limits) (bytes : List ℕ) where
@@ -66,8 +66,8 @@ module _ (limits : Limits) (bytes : List ℕ) where
           lines_refused (line.Underivable at n k) e = inl (from_scope ∙ ap (refused_by Lines) (sym is ∙ e))
           lines_refused line.NoMemory e = inr refl
 
-          pub all_done : (T : Translation) → Staged q T → Staged (translation limits bytes) T
-          all_done T w = record { scope = w.scope; is = from_scope ∙ ap (refused_by Lines) (sym is ∙ w.is); means = w.means }
+          pub all_done : (T : Translation) → q ≡ Ok (stage_of T) → translation limits bytes ≡ Ok (stage_of T)
+          all_done T w = from_scope ∙ ap (refused_by Lines) (sym is ∙ w)
 
 -- the lines of a specification, from a translation with no roles
 pub at_start : (limits : Limits) (bytes : List ℕ) (U : Scope) (t : TermTable) {ls ms : List Line} {rs : List Role} → ls ≡ ms → rs ≡ []

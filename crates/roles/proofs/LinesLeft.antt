@@ -10,9 +10,6 @@ use Rattle.syntax.specs.Specs.{Lined}
 use Rattle.syntax.specs.Views.{line_of}
 use Rattle.terms.specs.declared.limits.Limits.{Limits}
 use Rattle.terms.specs.Declaring.{bind}
-use Rattle.terms.specs.Meanings.{Means}
-use Rattle.terms.specs.Narrow.{Narrow, NarrowLines}
-use Rattle.terms.specs.Scope.{Scope}
 use Rattle.terms.proofs.Adding.{left_at}
 use Rattle.roles.specs.declared.line_fault.LineFault.{LineFault}
 use Rattle.roles.specs.declared.line_fault.LineFault.TheVariants.{Repeated}
@@ -44,14 +41,11 @@ module _ (limits : Limits) (text : List ℕ) where
       go (l ∷ ls) = ap (λ x. equal_labels text l.label b || x) (go ls)
 
   -- the lines so far come to this translation, and these are left
-  pub record Left (all : Result Stage LineFault) (T : Translation) (earlier : List Label) (xs : List Lined) : Type 0 where
-    pub scope : Scope
-    pub means : Means T.declarations scope
-    pub narrow : NarrowLines xs
-    pub same : all ≡ lines limits text earlier xs (stage_of T scope)
+  abbrev pub Left : Result Stage LineFault → Translation → List Label → List Lined → Type 0
+  Left all T earlier xs = all ≡ lines limits text earlier xs (stage_of T)
 
   abbrev pub LeftLines : List Lined → Translation → Translation → List Label → List Lined → Type 0
-  LeftLines all old T earlier xs = (U : Scope) → Means old.declarations U → NarrowLines all → Left (lines limits text [] all (stage_of old U)) T earlier xs
+  LeftLines all old T earlier xs = Left (lines limits text [] all (stage_of old)) T earlier xs
 
   module _ (all : Result Stage LineFault) (T : Translation) (ls : List Line) (i : ℕ) (x : Line) (h : i < length ls) (e : x ≡ get_or ls i x) (g : Left all T (labels (take i ls)) (map line_of (drop i ls))) where
     abbrev others : Stage → Result Stage LineFault
@@ -61,11 +55,11 @@ module _ (limits : Limits) (text : List ℕ) where
     next = subst (Left all T (labels (take i ls))) (left_at line_of ls i x h e) g
 
     abbrev this : ℕ → Result Stage LineFault
-    this number = line limits text number (line_of x) (stage_of T next.scope)
+    this number = line limits text number (line_of x) (stage_of T)
 
     from_label : all ≡ bind (new_label text (take i ls) x.label) (λ _. bind (this (i + 1)) others)
     from_label =
-        next.same ∙ ap (λ o. bind o (λ _. bind (this (suc (length (labels (take i ls))))) others)) (labels_of (take i ls) x.label)
+        next ∙ ap (λ o. bind o (λ _. bind (this (suc (length (labels (take i ls))))) others)) (labels_of (take i ls) x.label)
         ∙ ap (λ n. bind (new_label text (take i ls) x.label) (λ _. bind (this n) others)) (as_many ls i x h e)
 
     pub label_refused : (f : LineFault) → new_label text (take i ls) x.label ≡ Err f → Refused all f
@@ -76,13 +70,10 @@ module _ (limits : Limits) (text : List ℕ) where
       from_line = from_label ∙ ap (λ o. bind o (λ _. bind (this (i + 1)) others)) r
 
       abbrev Step : Result (Unit {0}) LineFault → Type 0
-      Step y = (U : Scope) → Means T.declarations U → Narrow (line_of x).message → Comes (line limits text (i + 1) (line_of x) (stage_of T U)) T' y
+      Step y = Comes (this (i + 1)) T' y
 
       pub line_refused : (f : LineFault) → Step (Err f) → Refused all f
-      line_refused f k = refused_path f from_line (refused_through (this (i + 1)) others f (k next.scope next.means next.narrow.0))
+      line_refused f k = refused_path f from_line (refused_through (this (i + 1)) others f k)
 
       pub line_done : Step (Ok tt) → Left all T' (labels (take (i + 1) ls)) (map line_of (drop (i + 1) ls))
-      line_done k =
-          let w = k next.scope next.means next.narrow.0 in
-          subst⁻¹ (λ bs. Left all T' bs (map line_of (drop (i + 1) ls))) (labels_to ls i x h e)
-          (record { scope = w.scope; means = w.means; narrow = next.narrow.1; same = from_line ∙ ap (λ o. bind o others) w.is })
+      line_done k = subst⁻¹ (λ bs. Left all T' bs (map line_of (drop (i + 1) ls))) (labels_to ls i x h e) (from_line ∙ ap (λ o. bind o others) k)

@@ -6,7 +6,7 @@ use Rattle.syntax.specs.Specs.{Term}
 use Rattle.terms.specs.declared.limits.Limits.{Limits}
 use Rattle.terms.specs.declared.table.TermTable.{TermTable}
 use Rattle.terms.specs.Declaring.{bind, with_term}
-use Rattle.terms.specs.Meanings.{Means}
+use Rattle.terms.specs.Meanings.{scope_of}
 use Rattle.terms.specs.Numbering.{tree}
 use Rattle.terms.specs.Scope.{Scope}
 use Rattle.terms.specs.Starting.{made_among}
@@ -63,14 +63,11 @@ module _ (limits : Limits) (text : List ℕ) (number : ℕ) (t : Term) (i j : �
         after_say : message limits text number t i j stage ≡ received (map (player_of after) (set rs i r'))
         after_say = with_terms ∙ ap (λ o. bind o received) (changed (player_of after) sending rs i r r' si ri said.0)
 
-        pub heard_so : (T : Translation) → T.declarations.terms ≡ after → vec_items T.roles ≡ set (set rs i r') j h' → Means T.declarations V → (y : Result (Unit {0}) LineFault)
+        pub heard_so : (T : Translation) → T.declarations.terms ≡ after → vec_items T.roles ≡ set (set rs i r') j h' → scope_of T.declarations ≡ V → (y : Result (Unit {0}) LineFault)
             → Plays after (receiving (player_of after h)) h' y → Comes (message limits text number t i j stage) T y
-        heard_so T et er m (Ok y) q = record {
-          scope = V;
-          is = after_say ∙ ap (λ o. bind o (λ qs. Ok (record { scope = V; players = qs }))) (changed (player_of after) receiving (set rs i r') j h h' sj hj q.0)
-              ∙ ap (λ ps. Ok (record { scope = V; players = ps })) (rw (et, er));
-          means = m;
-        }
+        heard_so T et er m (Ok y) q =
+            after_say ∙ ap (λ o. bind o (λ qs. Ok (record { scope = V; players = qs }))) (changed (player_of after) receiving (set rs i r') j h h' sj hj q.0)
+            ∙ ap (λ ps. Ok (record { scope = V; players = ps })) (rw (et, er)) ∙ ap (λ U. Ok (record { scope = U; players = map (player_of T.declarations.terms) (vec_items T.roles) })) (sym m)
         heard_so T et er m (Err e) q =
             refused_path e after_say
             (refused_through (change j receiving (map (player_of after) (set rs i r'))) (λ qs. Ok (record { scope = V; players = qs })) e

@@ -1,16 +1,13 @@
 -- A line, step by step: its two roles have their places, and the message goes from one to the other.
-use Rattle.std.proofs.Common.{◌≡◌, ℕ, zero, suc, ◌<◌, Bool, true, false, cond, eqb, leb, List, [], ◌∷◌, ◌++◌, length, min, Ok, Err, vec_items, Result, sym, refl, ap, ◌∙◌, arith}
+use Rattle.std.proofs.Common.{◌≡◌, ℕ, zero, suc, ◌<◌, Bool, true, false, cond, eqb, leb, List, [], ◌∷◌, ◌++◌, length, min, Ok, Err, Result, sym, refl, ap, ◌∙◌, arith}
 use mathlib.Core.Path.{subst⁻¹}
 use Rattle.std.proofs.lemmas.Bool.{ne_eqb, cond-false}
 use Rattle.std.specs.Prelude.{nat_lt}
 use Rattle.syntax.specs.declared.spec.Name.{Name}
 use Rattle.syntax.specs.Specs.{Lined}
-use Rattle.terms.specs.declared.declarations.Declarations.{Declarations}
 use Rattle.terms.specs.declared.fault.TermFault.{TermFault}
 use Rattle.terms.specs.declared.limits.Limits.{Limits}
-use Rattle.terms.specs.Declaring.{bind, party_number, principal}
-use Rattle.terms.specs.Meanings.{Means}
-use Rattle.terms.specs.Scope.{Scope, number_of, meaning_of}
+use Rattle.terms.specs.Declaring.{bind, principal}
 use Rattle.roles.specs.declared.line_fault.LineFault.{LineFault}
 use Rattle.roles.specs.declared.line_fault.LineFault.TheVariants.{Limit, Undeclared, WrongType, Repeated, Underivable, NoMemory}
 use Rattle.roles.specs.declared.translation.Translation.{Translation}
@@ -29,11 +26,6 @@ refused_is (WrongType p) e = e
 refused_is (Repeated p) e = e
 refused_is (Underivable p n k) e = e
 refused_is NoMemory e = tt
-
--- the number of a party, in the scope that the declarations stand for
-pub party_is : (text : List ℕ) (d : Declarations) (U : Scope) → Means d U → (n : Name) {r : Result ℕ TermFault}
-    → r ≡ party_number n (number_of text (vec_items d.names) n.part) (meaning_of text (vec_items d.names) n.part) → principal text U n ≡ r
-party_is text d U m n e = sym (e ∙ ap (λ ns. party_number n (number_of text ns n.part) (meaning_of text ns n.part)) m.names)
 
 -- a role that has its place keeps it when another comes
 place_kept : (n : ℕ) (ps more : List Player) → place_among n ps < length ps → place_among n (ps ++ more) ≡ place_among n ps

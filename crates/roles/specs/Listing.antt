@@ -2,6 +2,7 @@
 use Rattle.std.specs.Prelude.{ℕ, List, ◌++◌, map, codes, flat_map, vec_items}
 use Rattle.program.specs.Printed.{written, row_text}
 use Rattle.terms.specs.declared.declarations.Function.{Function}
+use Rattle.terms.specs.Meanings.{functions_of}
 use Rattle.terms.specs.Scope.{bytes}
 use Rattle.roles.specs.declared.role.Role.{Role}
 use Rattle.roles.specs.declared.translation.Translation.{Translation}
@@ -16,4 +17,4 @@ role_text text names r = codes "role " ++ (written (bytes text r.part) ++ (codes
 
 -- role by role
 abbrev pub listing : List ℕ → Translation → List ℕ
-listing text T = flat_map (role_text text (function_names text (vec_items T.declarations.functions))) (vec_items T.roles)
+listing text T = flat_map (role_text text (function_names text (functions_of T.declarations))) (vec_items T.roles)

@@ -16,7 +16,7 @@ impl Translation {
     pub fn listing(&self, heap: Global, text: &[u8]) -> Result<String, fmt::Error>
         ensures { IfOk result (λ s. string_bytes s ≡ listing text.now self.now) }
     {
-        let Ok(names) = function_names(heap, text, &self.declarations.functions) else {
+        let Ok(names) = function_names(heap, text, self.declarations.functions()) else {
             return Err(fmt::Error);
         };
         let mut out = String::new(heap);

@@ -2,8 +2,7 @@
 ghost use Rattle.std.specs.Prelude.{◌≡◌, ◌<◌, List, IfOk};
 ghost use Rattle.model.specs.Trees.{Tree};
 ghost use Rattle.terms.specs.Terms.{size, tree_in};
-ghost use Rattle.terms.specs.Scope.{Scope};
-ghost use Rattle.terms.specs.Meanings.{Lists, Means};
+ghost use Rattle.terms.specs.Meanings.{Lists, scope_of};
 ghost use Rattle.roles.specs.Parties.{makes_of};
 ghost use Rattle.roles.specs.Playing.{says, hears};
 ghost use Rattle.roles.specs.Starting.{started, StartsAs};
@@ -55,7 +54,7 @@ impl Role {
         limits: Limits,
     ) -> Result<Role, LineFault>
         ensures fits { IfOk result (λ role. Fit declarations.now.terms role.party role.state) }
-        ensures starts { (S : Scope) → Means declarations.now S → StartsAs declarations.now.terms (started limits S number name) result }
+        ensures starts { StartsAs declarations.now.terms (started limits (scope_of declarations.now) number name) result }
     {
         let terms = declarations.starting_terms(heap, number)?;
         let party = Party::of(heap, declarations, number)?;
@@ -67,7 +66,7 @@ impl Role {
             state: RoleState::new(heap),
         };
         let view = View {
-            table: &declarations.terms,
+            table: declarations.terms(),
             party: &role.party,
         };
         let turn = Turn {

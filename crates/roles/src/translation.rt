@@ -1,9 +1,6 @@
 // The lines of a specification: label, roles with their starts, types and terms of the message, sender, receiver.
 ghost use Rattle.std.specs.Prelude.{◌≡◌, ◌<◌, [], map, length};
 ghost use Rattle.syntax.specs.Views.{term_of, line_of};
-ghost use Rattle.terms.specs.Scope.{Scope};
-ghost use Rattle.terms.specs.Meanings.{Means};
-ghost use Rattle.terms.specs.Narrow.{Narrow, NarrowLines};
 ghost use Rattle.roles.specs.AllRoles.{AllFit, AllKeep, Placed, place_of};
 ghost use Rattle.roles.specs.Stages as stages;
 ghost use Rattle.roles.specs.Staging.{stage_of, Comes, FindsRole};
@@ -35,7 +32,7 @@ pub struct Translation {
 impl Translation {
     pub(crate) fn lines(&mut self, input: Input, lines: &[Line]) -> Result<(), LineFault>
         requires { AllFit self.old.declarations.terms self.old.roles.items }
-        ensures { (U : Scope) → Means self.old.declarations U → NarrowLines (map line_of lines.now) → Comes (stages.lines input.entry.limits input.entry.text.now [] (map line_of lines.now) (stage_of self.old U)) self.new result }
+        ensures { Comes (stages.lines input.entry.limits input.entry.text.now [] (map line_of lines.now) (stage_of self.old)) self.new result }
     {
         for (index, line) in lines.iter().enumerate() {
             fresh_label(input.text, &lines[..index], line.label)?;
@@ -47,7 +44,7 @@ impl Translation {
     fn line(&mut self, input: Input, number: usize, line: &Line) -> Result<(), LineFault>
         requires { AllFit self.old.declarations.terms self.old.roles.items }
         ensures keeps { AllKeep self.new.declarations.terms self.new.roles.items result }
-        ensures comes { (U : Scope) → Means self.old.declarations U → Narrow (term_of line.now.message) → Comes (stages.line input.entry.limits input.entry.text.now number (line_of line.now) (stage_of self.old U)) self.new result }
+        ensures comes { Comes (stages.line input.entry.limits input.entry.text.now number (line_of line.now) (stage_of self.old)) self.new result }
     {
         let sender = self.declarations.principal(input.text, line.sender)?;
         let sender_place = self.role(input, sender, line.sender)?;
@@ -72,7 +69,7 @@ impl Translation {
     fn role(&mut self, input: Input, number: u8, name: Name) -> Result<usize, LineFault>
         requires { AllFit self.old.declarations.terms self.old.roles.items }
         ensures placed { Placed self.new.declarations.terms self.old.roles.items self.new.roles.items result }
-        ensures finds { (U : Scope) → Means self.old.declarations U → FindsRole number (stages.with_role input.entry.limits input.entry.text.now number name (stage_of self.old U)) self.new result }
+        ensures finds { FindsRole number (stages.with_role input.entry.limits input.entry.text.now number name (stage_of self.old)) self.new result }
     {
         let place = self.roles.len();
         if let Some(earlier) = self.place_of(number) {
@@ -99,17 +96,18 @@ impl Translation {
         requires sender { sender < length self.old.roles.items }
         requires receiver { receiver < length self.old.roles.items }
         ensures keeps { AllKeep self.new.declarations.terms self.new.roles.items result }
-        ensures comes { (U : Scope) → Means self.old.declarations U → Narrow (term_of message.now) → Comes (stages.message input.entry.limits input.entry.text.now number (term_of message.now) sender receiver (stage_of self.old U)) self.new result }
+        ensures comes { Comes (stages.message input.entry.limits input.entry.text.now number (term_of message.now) sender receiver (stage_of self.old)) self.new result }
     {
         let turn = Turn {
             line: number,
             at: message.place(),
             limits: input.limits,
         };
-        let before = self.declarations.terms.len();
+        let before = self.declarations.terms().len();
         let term = self.declarations.term(input.text, message, input.limits)?;
         let made = self.declarations.made_since(input.heap, before)?;
-        self.roles[sender].say(&self.declarations.terms, turn, made.as_slice(), term)?;
-        self.roles[receiver].hear(&self.declarations.terms, turn, term)
+        let table = self.declarations.terms();
+        self.roles[sender].say(table, turn, made.as_slice(), term)?;
+        self.roles[receiver].hear(table, turn, term)
     }
 }

@@ -2,6 +2,7 @@ pub mod Numbered
 pub mod Views
 pub mod Tables
 pub mod ListedTrees
+pub mod TermAnswers
 pub mod Interning
 pub mod Growing
 pub mod Naming

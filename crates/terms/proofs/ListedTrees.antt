@@ -1,5 +1,5 @@
 -- The trees of a table, as a list.
-use Rattle.std.proofs.Common.{◌≡◌, ℕ, zero, suc, ◌<◌, Bool, true, false, cond, T, ltb, List, [], ◌∷◌, ◌++◌, length, get_or, Some, None, vec_items, sym, refl, ap, ◌∙◌, ⊎_elim, subst, arith}
+use Rattle.std.proofs.Common.{◌≡◌, ℕ, zero, suc, ◌<◌, Bool, true, false, cond, T, ltb, List, [], ◌∷◌, length, get_or, Some, None, vec_items, sym, refl, ap, ◌∙◌, ⊎_elim, subst, arith}
 use Rattle.std.specs.List.{position}
 use Rattle.std.proofs.lemmas.List.{length_push, get_or_push, get_or_append_left, same_lists}
 use Rattle.std.proofs.lemmas.List.Quantifiers.{position-Some}

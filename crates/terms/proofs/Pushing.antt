@@ -17,7 +17,7 @@ use Rattle.terms.specs.declared.declarations.Start.{Start}
 use Rattle.terms.specs.declared.declarations.ValueType.{ValueType}
 use Rattle.terms.specs.declared.limits.Limits.{Limits}
 use Rattle.terms.specs.Consistency.{Defined, Started}
-use Rattle.terms.specs.Terms.{tree_in, size}
+use Rattle.terms.specs.Terms.{tree_in}
 use Rattle.terms.specs.Scope.{Scope, Signature, Given}
 use Rattle.terms.specs.Numbering.{tree}
 use Rattle.terms.specs.Declaring.{with_name, with_function, with_start}

@@ -149,8 +149,7 @@ module _ (text : List ℕ) (names : List Declared) (most : ℕ) where
     module _ (at : ℕ) (few : count xs ≤ 8) where
       pub onward_done : (t : TermTable) (ps : Parts) → Onward t ps none → ReadsAll text names t₀ t at xs most (Ok ps)
       onward_done t ps o us small l s =
-          let r = o us small l s in
-          (
+          let r = o us small l s in (
             then_none (tree_in t) ps ∙ r.made,
             record { terms = r.mid; is = ap (λ b. cond b (read_all text names most xs us) (Err (Limit at))) (le-leb (count xs) 8 few) ∙ r.same; lists = r.lists },
           )

@@ -20,7 +20,7 @@ use Rattle.terms.specs.Terms.{size, Grows}
 use Rattle.terms.specs.Scope.{Scope, Signature, no_function, declares, number_of, meaning_of}
 use Rattle.terms.specs.Typing.{and_then, stands_for, fits, name_fits, applied, applied_fits, typed, typed_all}
 use Rattle.terms.specs.Numbering.{tree, read}
-use Rattle.terms.specs.Declaring.{with_terms, with_term}
+use Rattle.terms.specs.Declaring.{with_terms}
 use Rattle.terms.specs.Consistency.{Started}
 use Rattle.terms.specs.Meanings.{Lists, given_in, signature_of, trees_of, scope_of}
 use Rattle.terms.specs.Rows.{Begins}

@@ -15,7 +15,7 @@ use Rattle.terms.specs.declared.limits.Limits.{Limits}
 use Rattle.terms.specs.declared.fault.DeclarationFault.{DeclarationFault}
 use Rattle.terms.specs.declared.fault.DeclarationFault.TheVariants.{Limit, Redeclared, Undeclared, WrongType, NoMemory}
 use Rattle.terms.specs.Scope.{Scope}
-use Rattle.terms.specs.Declaring.{kinds_of, right_of, known, declare, declared}
+use Rattle.terms.specs.Declaring.{kinds_of, known, declare, declared}
 use Rattle.terms.specs.Meanings.{scope_of}
 
 -- this fault, or want of memory, of which nothing is said

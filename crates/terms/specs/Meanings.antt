@@ -29,6 +29,13 @@ first_trees f (suc k) = first_trees f k ++ (f k ∷ [])
 unfoldable pub trees_of : TermTable → List Tree
 trees_of t = first_trees (tree_in t) (size t)
 
+-- the rows of functions and of starts, and the terms by number
+abbrev pub functions_of : Declarations → List Function
+functions_of d = vec_items d.functions
+
+abbrev pub starts_of : Declarations → List Start
+starts_of d = vec_items d.starts
+
 abbrev pub table_of : Declarations → TermTable
 table_of d = d.terms
 
@@ -36,8 +43,8 @@ table_of d = d.terms
 abbrev pub scope_of : Declarations → Scope
 scope_of d = record {
   names = vec_items d.names;
-  functions = map signature_of (vec_items d.functions);
-  starts = map (given_in d.terms) (vec_items d.starts);
+  functions = map signature_of (functions_of d);
+  starts = map (given_in (table_of d)) (starts_of d);
   rights = vec_items d.rights;
-  terms = trees_of d.terms;
+  terms = trees_of (table_of d);
 }

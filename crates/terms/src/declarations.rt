@@ -84,10 +84,10 @@ pub struct Declarations {
 }
 
 impl Declarations {
-    ghost use Rattle.std.specs.Prelude.{◌≡◌, map};
+    ghost use Rattle.std.specs.Prelude.{◌≡◌};
     ghost use Rattle.terms.specs.Scope.{nothing_declared, number_of, meaning_of, function_of};
     ghost use Rattle.terms.specs.Declaring.{principal};
-    ghost use Rattle.terms.specs.Meanings.{scope_of, table_of, signature_of, given_in};
+    ghost use Rattle.terms.specs.Meanings.{scope_of, table_of, functions_of, starts_of};
 
     /// Nothing is declared.
     #[tactic(auto, unfolding(crate::specs::Meanings::trees_of))]
@@ -112,14 +112,14 @@ impl Declarations {
 
     /// The functions, in the order of their declaration.
     pub fn functions(&self) -> &[Function]
-        ensures { map signature_of result.now ≡ (scope_of self.now).functions }
+        ensures { result.now ≡ functions_of self.now }
     {
         &self.functions
     }
 
     /// The terms that parties start from, in the order of declaration.
     pub fn starts(&self) -> &[Start]
-        ensures { map (given_in (table_of self.now)) result.now ≡ (scope_of self.now).starts }
+        ensures { result.now ≡ starts_of self.now }
     {
         &self.starts
     }

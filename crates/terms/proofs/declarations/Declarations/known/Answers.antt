@@ -3,7 +3,7 @@ use Rattle.syntax.specs.Views.{term_of}
 use Rattle.terms.specs.Terms.{size}
 use Rattle.terms.proofs.ListedTrees.{listed_at}
 use Rattle.terms.proofs.Pushing.{started_push}
-use Rattle.terms.proofs.Declared.{knows_term, knows_refused}
+use Rattle.terms.proofs.Declared.{knows_term}
 use Rattle.terms.proofs.declarations.Declarations.known.Goals as goal
 
 pub returns : goal.returns
