@@ -4,16 +4,16 @@ use program::parts::Parts;
 
 // How a value is built of those of earlier rows.
 #[derive(Clone, Copy, PartialEq, Eq)]
-pub enum Row {
+pub(crate) enum Row {
     Atom(u32),
     Compound { kind: Kind, parts: Parts },
 }
 
 #[derive(Clone, Copy)]
-pub struct Entry {
-    pub row: Row,
+pub(crate) struct Entry {
+    pub(crate) row: Row,
     // the number of the first row with an equal value
-    pub class: u16,
+    pub(crate) class: u16,
     // one more than the number of the row before in its chain, or 0
-    pub next: u16,
+    pub(crate) next: u16,
 }

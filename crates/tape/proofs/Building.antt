@@ -1,6 +1,5 @@
 -- The encoding of a value that is built of a shape and parts.
-use Rattle.std.proofs.Common.{◌≡◌, ℕ, ◌+◌, ◌≤◌, List, [], ◌∷◌, ◌++◌, length, take, drop, arith, refl, ap, sym, subst, ◌∙◌, append_assoc, length-append, length-take-le}
-use Rattle.std.proofs.lemmas.List.{take_at, take-append-le, take-take}
+use Rattle.std.proofs.Common.{◌≡◌, ℕ, List, [], ◌∷◌, ◌++◌, length, arith, refl, ap, sym, subst, ◌∙◌}
 use Rattle.std.specs.Prelude.{Some, None, Option, Ok, Err, Result}
 use Rattle.model.specs.Trees.{Tree, Trees, none, more, Formed, FormedAll}
 use Rattle.model.specs.Roles.{count}
@@ -12,7 +11,7 @@ use Rattle.store.specs.declared.shape.Shape.TheVariants.{Atom, Tuple, Crypt, App
 use Rattle.store.specs.Makers.{with_more, gathered}
 use Rattle.tape.specs.Headers.{header_bytes, parts_after}
 use Rattle.tape.specs.Values.{build, meaning, IsWhole}
-use Rattle.tape.specs.Making.{parts_on, size_answer, overwritten}
+use Rattle.tape.specs.Making.{parts_on, size_answer}
 use Rattle.tape.proofs.Formed.{two_formed}
 use Rattle.tape.proofs.Appending.{meant}
 
@@ -74,25 +73,3 @@ sized_parts bs cs hs n p e = go (parts_on bs hs) (e ∙ ap (λ ds. size_answer (
     go : (o : Option Trees) → Ok n ≡ size_answer o → (ts : Trees) × (o ≡ Some ts) × (n ≡ length (encode_all ts))
     go None e = absurd (let z : ◌≡◌ {A = Result ℕ StoreFault} (Ok n) (Err Invalid) = e in cc)
     go (Some ts) e = (ts, refl, (let z : ◌≡◌ {A = Result ℕ StoreFault} (Ok n) (Ok (length (encode_all ts))) = e in cc))
-
--- bytes written behind the used ones
-pub take_overwritten : (xs : List ℕ) (n at : ℕ) (ys : List ℕ) → n ≤ at → at ≤ length xs → take n (overwritten xs at ys) ≡ take n xs
-take_overwritten xs n at ys l m =
-    let e = length-take-le at xs m in
-    take-append-le n (take at xs) (ys ++ drop (at + length ys) xs) (omega arith) ∙ take-take n at xs l
-
--- and behind these
-pub overwritten_twice : (xs : List ℕ) (at : ℕ) (ys zs : List ℕ) (k n : ℕ) → k ≡ at + length ys → n ≡ k + length zs → k ≤ length xs
-    → take n (overwritten (overwritten xs at ys) k zs) ≡ take at xs ++ (ys ++ zs)
-overwritten_twice xs at ys zs k n ek en l =
-    let a = length-take-le at xs (omega arith) in
-    let b : length (take at xs ++ ys) ≡ k = length-append (take at xs) ys ∙ (omega arith) in
-    let rest = drop k xs in
-    let once : overwritten xs at ys ≡ (take at xs ++ ys) ++ rest = sym (append_assoc (take at xs) ys (drop (at + length ys) xs)) ∙ ap (λ m. (take at xs ++ ys) ++ drop m xs) (sym ek) in
-    let taken : take k (overwritten xs at ys) ≡ take at xs ++ ys = ap (take k) once ∙ take_at (take at xs ++ ys) rest k b in
-    let past = drop (k + length zs) (overwritten xs at ys) in
-    let all : length ((take at xs ++ ys) ++ zs) ≡ n = length-append (take at xs ++ ys) zs ∙ (omega arith) in
-    ap (λ front. take n (front ++ (zs ++ past))) taken
-    ∙ ap (take n) (sym (append_assoc (take at xs ++ ys) zs past))
-    ∙ take_at ((take at xs ++ ys) ++ zs) past n all
-    ∙ append_assoc (take at xs) ys zs

@@ -11,6 +11,7 @@ pub mod Sizing
 pub mod Appending
 pub mod Building
 pub mod HeldValues
+pub mod Writes
 pub mod Making
 pub mod Opening
 pub mod Asking

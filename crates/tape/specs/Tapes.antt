@@ -1,14 +1,13 @@
 -- A tape as a store.
-use Rattle.std.specs.Prelude.{◌≡◌, ℕ, ◌-◌, List, take, Some, None, Ok, Err, Result, ok_or, option_map, vec_len}
+use Rattle.std.specs.Prelude.{◌≡◌, ℕ, ◌-◌, List, ◌++◌, take, drop, Some, None, Ok, Err, Result, vec_len}
 use Rattle.model.specs.Trees.{Tree}
 use Rattle.store.specs.declared.fault.StoreFault.{StoreFault}
 use Rattle.store.specs.declared.fault.StoreFault.TheVariants.{Invalid}
-use Rattle.store.specs.declared.shape.Shape.{Shape}
 use Rattle.model.specs.Tape.{tape_cost}
 use Rattle.store.specs.Semantics.{Semantics}
 use Rattle.tape.specs.declared.tape.Tape.{Tape}
-use Rattle.tape.specs.Values.{build, meaning, Begins}
-use Rattle.tape.specs.Making.{parts_on, overwritten}
+use Rattle.tape.specs.Values.{meaning, Begins}
+use Rattle.tape.specs.Making.{over}
 
 -- the bytes that are used
 abbrev pub bytes_of : Tape → List ℕ
@@ -17,10 +16,6 @@ bytes_of t = take t.used t.bytes.items
 -- a handle is where an encoding starts; the space is the bytes that are left; a value costs as many as its encoding has
 abbrev pub tape : Semantics Tape
 tape = record { means = λ t h. meaning (bytes_of t) h; space = λ t. vec_len t.bytes - t.used; cost = λ t. tape_cost }
-
--- the value of a shape that is to be made
-abbrev pub to_make : Tape → Shape → List ℕ → Result Tree StoreFault
-to_make t s hs = ok_or (option_map (build s) (parts_on (bytes_of t) hs)) Invalid
 
 -- a handle's value, and the place of its encoding
 pub record Names (t : Tape) (h at : ℕ) : Type 0 where
@@ -32,8 +27,8 @@ abbrev pub Finds : Tape → ℕ → Result ℕ StoreFault → Type 0
 Finds t h (Ok at) = Names t h at
 Finds t h (Err e) = (e ≡ Invalid) × (tape.means t h ≡ None)
 
--- bytes were written at a place, and nothing else was changed
-pub record Puts (t t' : Tape) (at : ℕ) (ys : List ℕ) : Type 0 where
+-- bytes were written behind the used ones, and nothing else was changed
+pub record Writes (t t' : Tape) (ys : List ℕ) : Type 0 where
   pub used : t'.used ≡ t.used
-  pub bytes : t'.bytes.items ≡ overwritten t.bytes.items at ys
+  pub bytes : t'.bytes.items ≡ bytes_of t ++ over (drop t.used t.bytes.items) ys
   pub long : vec_len t'.bytes ≡ vec_len t.bytes

@@ -1,6 +1,7 @@
 // Headers on a tape: reading and writing.
-ghost use Rattle.std.specs.Prelude.{◌≡◌, ◌≤◌, ◌++◌, drop, length, slice_index};
+ghost use Rattle.std.specs.Prelude.{◌≡◌, ◌≤◌, drop, length, slice_index};
 ghost use Rattle.store.specs.declared.shape.Shape.TheVariants.{Atom};
+ghost use Rattle.tape.specs.Making.{over};
 ghost use Rattle.tape.specs.Headers.{number, header, header_bytes, header_size, parts_after};
 
 use store::shape::Shape;
@@ -75,7 +76,7 @@ pub(crate) fn parts_after(shape: Shape) -> usize
 // Writes a header at the front of some bytes.
 pub(crate) fn write_header(out: &mut [u8], shape: Shape)
     requires { header_size shape ≤ length out.old }
-    ensures { out.new ≡ header_bytes shape ++ drop (header_size shape) out.old }
+    ensures { out.new ≡ over out.old (header_bytes shape) }
 {
     match shape {
         Shape::Atom(number) => write_atom(out, number),
@@ -94,7 +95,7 @@ pub(crate) fn write_header(out: &mut [u8], shape: Shape)
 
 fn write_atom(out: &mut [u8], number: u32)
     requires { 5 ≤ length out.old }
-    ensures { out.new ≡ header_bytes (Atom number) ++ drop 5 out.old }
+    ensures { out.new ≡ over out.old (header_bytes (Atom number)) }
 {
     out[0] = 1;
     out[1] = (number / 16777216) as u8;

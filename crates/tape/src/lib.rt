@@ -3,6 +3,7 @@
 
 mod bytes;
 mod calls;
+mod encode;
 mod header;
 mod make;
 mod open;

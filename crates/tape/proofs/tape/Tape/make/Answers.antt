@@ -13,19 +13,17 @@ pub invariant_of-self-clause-whole : goal.invariant_of-self-clause-whole
 invariant_of-self-clause-whole c =
     let p = sized_parts (bytes_of c.args.self.now) c.as_bytes.result.now c.args.parts.now c.in_ok-size.field-0 c.as_bytes.ensures.bytes c.in_ok-size.ensures.size in
     whole_after c.args.self.now c.args.shape c.args.parts.now p.0 c.in_ok-size.field-0 c.requires.count p.1 p.2
-    c.put_header.new.self c.put_parts.new.self (c.args.self.now.used + c.header_size-2.result) (c.header_size.result + c.in_ok-size.field-0)
-    c.put_header.ensures (omega arith) (omega arith) (omega arith) c.put_parts.ensures
+    c.deref_mut.result.now c.append.new.bytes (c.header_size.result + c.in_ok-size.field-0) (omega arith) (omega arith) c.deref_mut.ensures.value c.append.ensures
 
 pub invariant_of-self-clause-held : goal.invariant_of-self-clause-held
 invariant_of-self-clause-held c =
     let p = sized_parts (bytes_of c.args.self.now) c.as_bytes.result.now c.args.parts.now c.in_ok-size.field-0 c.as_bytes.ensures.bytes c.in_ok-size.ensures.size in
     held_after c.args.self.now c.args.shape c.args.parts.now p.0 c.in_ok-size.field-0 c.requires.count p.1 p.2
-    c.put_header.new.self c.put_parts.new.self (c.args.self.now.used + c.header_size-2.result) (c.header_size.result + c.in_ok-size.field-0)
-    c.put_header.ensures (omega arith) (omega arith) (omega arith) c.put_parts.ensures c.requires.numbered (let e = c.requires.count in let l = c.requires.eight in omega arith)
+    c.deref_mut.result.now c.append.new.bytes (c.header_size.result + c.in_ok-size.field-0) (omega arith) (omega arith) c.deref_mut.ensures.value c.append.ensures
+    c.requires.numbered (let e = c.requires.count in let l = c.requires.eight in omega arith)
 
 pub returns : goal.returns
 returns c =
     let p = sized_parts (bytes_of c.args.self.now) c.as_bytes.result.now c.args.parts.now c.in_ok-size.field-0 c.as_bytes.ensures.bytes c.in_ok-size.ensures.size in
     made c.args.self.now c.args.shape c.args.parts.now p.0 c.in_ok-size.field-0 c.requires.count p.1 p.2
-    c.put_header.new.self c.put_parts.new.self (c.args.self.now.used + c.header_size-2.result) (c.header_size.result + c.in_ok-size.field-0)
-    c.put_header.ensures (omega arith) (omega arith) (omega arith) c.put_parts.ensures _ refl refl refl
+    c.deref_mut.result.now c.append.new.bytes (c.header_size.result + c.in_ok-size.field-0) (omega arith) (omega arith) c.deref_mut.ensures.value c.append.ensures _ refl refl refl

@@ -1,5 +1,0 @@
-use Rattle.tape.proofs.Sizing.{Copied}
-use Rattle.tape.proofs.parts.copy_parts.Given as goal
-
-abbrev pub invariant-loop-part : goal.invariant-loop-part
-invariant-loop-part l = Copied l.bytes l.parts l.fn.out l.out l.part-index l.at
