@@ -54,6 +54,10 @@ number_room place all rows a b n cap test fits is room =
     let e = eqb-true n (news (map row_act rows)) (and_parts a (n == news (map row_act rows)) (sym test ∙ fits)).1 in
     omega (arith, ap (λ (xs : List Row). news (map row_act xs)) is, news_left place all)
 
+-- it is the turn of a say
+pub said_turn : (run : Run) (u : Unit {0}) → Ok u ≡ turn_answer run asks.Say → turn_answer run asks.Say ≡ Ok tt
+said_turn run u e = sym e
+
 module _ {S : Type 0} (M : Semantics S) (old new : S) where
   -- a line that was heard
   pub heard : (run run' : Run) (check : Result (Unit {0}) RunFault) → check ≡ Ok tt → (line line' : List Row) → line ≡ line' → (inputs inputs' : List ℕ) → inputs ≡ inputs'

@@ -1,5 +1,5 @@
 // Values that an action makes.
-ghost use Rattle.std.specs.Prelude.{◌≡◌, ◌≤◌, [], ◌∷◌, length, drop};
+ghost use Rattle.std.specs.Prelude.{◌≡◌, [], ◌∷◌, drop};
 ghost use Rattle.model.specs.Trees.{crypted};
 ghost use Rattle.program.specs.Actions.{opened_head};
 ghost use Rattle.store.specs.Makers.{Makes};

@@ -2,19 +2,19 @@
 #![tactic(auto)]
 
 mod build;
-pub mod calls;
 pub mod fault;
 mod line;
-pub mod look;
-pub mod new;
 mod open;
-pub mod registers;
+mod registers;
+mod room;
 pub mod run;
 mod said;
-mod start;
 mod step;
 mod supply;
-mod try_line;
 mod turn;
 mod valid;
-pub mod values;
+mod values;
+
+pub use crate::fault::RunFault;
+pub use crate::run::Run;
+pub use crate::values::values_follow;

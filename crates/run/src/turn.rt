@@ -1,13 +1,11 @@
-// Whose turn it is in a run, and the rows of the line that it is the turn of.
+// Whose turn it is, and how many values and numbers are wanted.
 ghost use Rattle.std.specs.Prelude.{◌≡◌, ◌==◌, ◌&&◌, map};
 ghost use Rattle.model.specs.Sessions.{gives, news};
 ghost use Rattle.program.specs.Actions.{row_act, act_of};
 ghost use Rattle.run.specs.Plain.{is_hear};
 ghost use Rattle.run.specs.Filling.{line_rows};
-ghost use Rattle.run.specs.Turned.{is_give, is_new, turn_answer, rows_ahead, line_ahead};
+ghost use Rattle.run.specs.Turned.{is_give, is_new};
 
-use crate::fault::RunFault;
-use crate::run::Run;
 use program::action::{Action, Row};
 
 // Which call is asked for.
@@ -18,44 +16,7 @@ pub(crate) enum Asked {
     Hear,
 }
 
-impl<'a> Run<'a> {
-    // The rows still to come.
-    pub(crate) fn ahead(&self) -> &'a [Row]
-        ensures { result.now ≡ rows_ahead self.now }
-    {
-        &self.program.rows()[self.place..]
-    }
-
-    // Is it the turn of a call?
-    pub(crate) fn in_turn(&self, asked: Asked) -> Result<(), RunFault>
-        ensures { result ≡ turn_answer self.now asked }
-    {
-        let turn = match (self.begun, self.ahead().first(), asked) {
-            (false, _, Asked::Begin) => true,
-            (true, Some(row), Asked::Say) => !hears(row.action),
-            (true, Some(row), Asked::Hear) => hears(row.action),
-            _ => false,
-        };
-        if turn {
-            Ok(())
-        } else {
-            Err(RunFault::OutOfTurn { place: self.place })
-        }
-    }
-
-    // The rows of the next line.
-    pub(crate) fn line(&self) -> &'a [Row]
-        ensures { result.now ≡ line_ahead self.now }
-    {
-        let rows = self.ahead();
-        match rows.first() {
-            Some(row) => front(rows, row.line),
-            None => rows,
-        }
-    }
-}
-
-fn hears(action: Action) -> bool
+pub(crate) fn hears(action: Action) -> bool
     ensures { result ≡ is_hear (act_of action) }
 {
     matches!(action, Action::Hear { .. })

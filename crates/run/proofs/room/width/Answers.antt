@@ -1,7 +1,7 @@
 use Rattle.std.proofs.Common.{◌+◌, max, sym, ap, ◌∙◌}
 use Rattle.run.proofs.Spanning.{span_none, span_some}
-use Rattle.run.proofs.new.width.Goals as goal
-use Rattle.run.proofs.new.width.Goals.{then-span-gt0, else-span-gt0}
+use Rattle.run.proofs.room.width.Goals as goal
+use Rattle.run.proofs.room.width.Goals.{then-span-gt0, else-span-gt0}
 
 pub loop-row-preserved : goal.loop-row-preserved
 loop-row-preserved c =
