@@ -1,9 +1,10 @@
 -- The text of a program's rows.
 use Rattle.std.specs.Prelude.{ℕ, List, [], ◌∷◌, ◌++◌, codes, IsAscii, encode_utf8_all, decimal, slice_index_or}
 use Rattle.program.specs.declared.action.Action.{Action}
-use Rattle.program.specs.declared.action.Action.TheVariants.{Give, New, Hear, Say, Same, Crypt, Tuple, Apply, OpenCrypt, OpenTuple, OpenApply}
 use Rattle.program.specs.declared.action.Row.{Row}
-use Rattle.program.specs.Parts.{parts_of}
+use Rattle.program.specs.Actions.{act_of}
+use Rattle.model.specs.Trees.{tupled, crypted, applied}
+use Rattle.model.specs.Roles.{Act, give, new, hear, say, same, make, split, unlock}
 
 -- a blank and a number, for each number; then the line's end
 abbrev pub numbers : List ℕ → List ℕ
@@ -22,18 +23,27 @@ written bytes = encode_utf8_all bytes
 abbrev pub Narrow : List (List ℕ) → Type 0
 Narrow names = (f : ℕ) → IsAscii (name names f)
 
+-- an action, as the model has it, with its registers: what is filled comes first; no program opens a ciphertext without its key
+abbrev pub act_text : List (List ℕ) → Act → List ℕ
+act_text names (give t) = codes " give" ++ numbers (t ∷ [])
+act_text names (new t) = codes " new" ++ numbers (t ∷ [])
+act_text names (hear t) = codes " hear" ++ numbers (t ∷ [])
+act_text names (say r) = codes " say" ++ numbers (r ∷ [])
+act_text names (same l r) = codes " same" ++ numbers (l ∷ (r ∷ []))
+act_text names (make t tupled rs) = codes " tuple" ++ numbers (t ∷ rs)
+act_text names (make t crypted rs) = codes " crypt" ++ numbers (t ∷ rs)
+act_text names (make t (applied f) rs) = codes " apply " ++ (decimal t ++ (codes " " ++ (name names f ++ numbers rs)))
+act_text names (split f n tupled s) = codes " open-tuple" ++ numbers (f ∷ (n ∷ (s ∷ [])))
+act_text names (split f n crypted s) = []
+act_text names (split f n (applied g) s) = codes " open-apply " ++ (decimal f ++ (codes " " ++ (decimal n ++ (codes " " ++ (decimal s ++ (codes " " ++ (name names g ++ numbers [])))))))
+act_text names (unlock t s k) = codes " open-crypt" ++ numbers (t ∷ (s ∷ (k ∷ [])))
+
+-- an action with the number of its line
+abbrev pub step_text : List (List ℕ) → ℕ × Act → List ℕ
+step_text names s = decimal s.0 ++ act_text names s.1
+
 abbrev pub action_text : List (List ℕ) → Action → List ℕ
-action_text names (Give t) = codes " give" ++ numbers (t ∷ [])
-action_text names (New t) = codes " new" ++ numbers (t ∷ [])
-action_text names (Hear t) = codes " hear" ++ numbers (t ∷ [])
-action_text names (Say r) = codes " say" ++ numbers (r ∷ [])
-action_text names (Same l r) = codes " same" ++ numbers (l ∷ (r ∷ []))
-action_text names (Crypt t x k) = codes " crypt" ++ numbers (t ∷ (x ∷ (k ∷ [])))
-action_text names (Tuple t ps) = codes " tuple" ++ numbers (t ∷ parts_of ps)
-action_text names (Apply t f ps) = codes " apply " ++ (decimal t ++ (codes " " ++ (name names f ++ numbers (parts_of ps))))
-action_text names (OpenCrypt t s k) = codes " open-crypt" ++ numbers (t ∷ (s ∷ (k ∷ [])))
-action_text names (OpenTuple f n s) = codes " open-tuple" ++ numbers (f ∷ (n ∷ (s ∷ [])))
-action_text names (OpenApply f n s g) = codes " open-apply " ++ (decimal f ++ (codes " " ++ (decimal n ++ (codes " " ++ (decimal s ++ (codes " " ++ (name names g ++ numbers [])))))))
+action_text names a = act_text names (act_of a)
 
 -- a row: its line, its action, the registers; a function goes by its name
 abbrev pub row_text : List (List ℕ) → Row → List ℕ
