@@ -33,5 +33,10 @@ abbrev pub answer_of : List ℕ → Result Stage TranslationFault → List ℕ
 answer_of text (Ok G) = programs_text text G
 answer_of text (Err f) = refusal_line (translation_refusal f)
 
+-- why there are no programs
+abbrev pub refusal_of : Result Stage TranslationFault → Option Refusal
+refusal_of (Ok G) = None
+refusal_of (Err f) = translation_refusal f
+
 abbrev pub answer : Limits → List ℕ → List ℕ
 answer limits text = answer_of text (translation limits text)

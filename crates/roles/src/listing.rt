@@ -13,7 +13,7 @@ use terms::declarations::Function;
 
 impl Translation {
     // A line with the role's name, then its rows, for each role. There is an error only for want of memory.
-    pub fn listing(&self, heap: Global, text: &[u8]) -> Result<String, fmt::Error>
+    pub(crate) fn listing(&self, heap: Global, text: &[u8]) -> Result<String, fmt::Error>
         ensures { IfOk result (λ s. string_bytes s ≡ listing text.now self.now) }
     {
         let Ok(names) = function_names(heap, text, self.declarations.functions()) else {

@@ -1,0 +1,95 @@
+-- What is answered in print: the rows of the code are the actions of the definition, and the first bytes of a text decide.
+use Rattle.std.proofs.Common.{◌≡◌, ℕ, Bool, true, false, cond, List, [], ◌∷◌, ◌++◌, map, length, take, codes, flat_map, string_bytes, None, Ok, Err, Result, refl, sym, ap, ap₂, ◌∙◌, arith, nat_le, nat_lt, vec_items}
+use Rattle.std.proofs.lemmas.List.{length-take-le, take_all, take-take}
+use Rattle.std.proofs.lemmas.Bool.{leb-true, leb-false}
+use Rattle.text.specs.Trees.{Tree}
+use Rattle.text.specs.Reading.{read, reading, too_long}
+use Rattle.text.specs.declared.fault.TextFault.{TextFault}
+use Rattle.text.specs.declared.fault.TextFault.TheVariants as texts
+use Rattle.program.specs.declared.action.Row.{Row}
+use Rattle.program.specs.Printed.{written, row_text, step_text}
+use Rattle.terms.specs.declared.declarations.Function.{Function}
+use Rattle.terms.specs.declared.limits.Limits.{Limits}
+use Rattle.terms.specs.declared.table.TermTable.{TermTable}
+use Rattle.terms.specs.Meanings.{Means, signature_of}
+use Rattle.terms.specs.Scope.{Scope, Signature, bytes}
+use Rattle.terms.specs.Declaring.{bind, declared}
+use Rattle.syntax.specs.Shape.{shape}
+use Rattle.roles.specs.declared.role.Role.{Role}
+use Rattle.roles.specs.declared.translation.Translation.{Translation}
+use Rattle.roles.specs.declared.translation_fault.TranslationFault.{TranslationFault}
+use Rattle.roles.specs.declared.translation_fault.TranslationFault.TheVariants.{Text, Shape, Declarations, Lines}
+use Rattle.roles.specs.declared.answer.Answer.{Answer}
+use Rattle.roles.specs.Answers.{program_text, programs_text, refusal_of, answer_of, answer}
+use Rattle.roles.specs.Answered.{Answered}
+use Rattle.roles.specs.Listing.{function_names, role_text, listing}
+use Rattle.roles.specs.Players.{lined, player_of}
+use Rattle.roles.specs.Stages.{Stage, refused_by, lines}
+use Rattle.roles.specs.Staging.{Staged, stage_of}
+use Rattle.roles.specs.Translating.{translation}
+
+module _ (text : List ℕ) where
+  names_are : (fs : List Function) → function_names text fs ≡ map (λ (f : Signature). written (bytes text f.name)) (map signature_of fs)
+  names_are [] = refl
+  names_are (f ∷ fs) = ap (λ ns. written (bytes text f.name) ∷ ns) (names_are fs)
+
+  rows_are : (names : List (List ℕ)) (rs : List Row) → flat_map (row_text names) rs ≡ flat_map (step_text names) (map lined rs)
+  rows_are names [] = refl
+  rows_are names (r ∷ rs) = ap (λ xs. row_text names r ++ xs) (rows_are names rs)
+
+  role_is : (names : List (List ℕ)) (t : TermTable) (r : Role) → role_text text names r ≡ program_text text names (player_of t r)
+  role_is names t r = ap (λ xs. codes "role " ++ (written (bytes text r.part) ++ (codes "\n" ++ xs))) (rows_are names (vec_items r.rows))
+
+  roles_are : (names : List (List ℕ)) (t : TermTable) (rs : List Role) → flat_map (role_text text names) rs ≡ flat_map (program_text text names) (map (player_of t) rs)
+  roles_are names t [] = refl
+  roles_are names t (r ∷ rs) = ap₂ (λ xs ys. xs ++ ys) (role_is names t r) (roles_are names t rs)
+
+  listing_is : (T : Translation) (U : Scope) → Means T.declarations U → listing text T ≡ programs_text text (stage_of T U)
+  listing_is T U m =
+      roles_are (function_names text (vec_items T.declarations.functions)) T.declarations.terms (vec_items T.roles)
+      ∙ ap (λ names. flat_map (program_text text names) (map (player_of T.declarations.terms) (vec_items T.roles)))
+      (names_are (vec_items T.declarations.functions) ∙ ap (λ (fs : List Signature). map (λ (f : Signature). written (bytes text f.name)) fs) m.functions)
+
+module _ (limits : Limits) (text : List ℕ) where
+  pub programs_answered : (T : Translation) (a : Answer) → Staged (translation limits text) T → string_bytes a.text ≡ listing text T → a.refusal ≡ None → Answered limits text a
+  programs_answered T a s e n =
+      record {
+        bytes = e ∙ listing_is text T s.scope s.means ∙ sym (ap (answer_of text) s.is);
+        refusal = n ∙ sym (ap refusal_of s.is);
+      }
+
+-- what follows a text that is too long does not look at it
+cut_short : (r : Result Tree TextFault) (text text' : List ℕ) (k k' : Tree → Result Stage TranslationFault)
+    → answer_of text (bind (refused_by Text (too_long r)) k) ≡ answer_of text' (bind (refused_by Text (too_long r)) k')
+cut_short (Ok t) text text' k k' = refl
+cut_short (Err (texts.Limit p)) text text' k k' = refl
+cut_short (Err (texts.Broken p)) text text' k k' = go (nat_lt p 65536)
+  where
+    go : (b : Bool)
+        → answer_of text (bind (refused_by Text (cond b (Err (texts.Broken p)) (Err (texts.Limit 65535)))) k) ≡ answer_of text' (bind (refused_by Text (cond b (Err (texts.Broken p)) (Err (texts.Limit 65535)))) k')
+    go true = refl
+    go false = refl
+cut_short (Err texts.NoMemory) text text' k k' = refl
+
+-- what is done with the tree of a text
+abbrev with_tree : Limits → List ℕ → Tree → Result Stage TranslationFault
+with_tree limits text t =
+    bind (refused_by Shape (shape text t)) (λ S.
+    bind (refused_by Declarations (declared text limits S)) (λ U.
+    refused_by Lines (lines limits text [] S.lines (record { scope = U; players = [] }))))
+
+pub first_bytes_decide : (limits : Limits) (text : List ℕ) → answer limits (take 65536 text) ≡ answer limits text
+first_bytes_decide limits text = go (nat_le (length text) 65535) refl
+  where
+    go : (b : Bool) → nat_le (length text) 65535 ≡ b → answer limits (take 65536 text) ≡ answer limits text
+    go true e = ap (answer limits) (let h = leb-true (length text) 65535 e in take_all 65536 text (omega (arith, h)))
+    go false e =
+        let first = take 65536 text in
+        let h = leb-false (length text) 65535 e in
+        let n = length-take-le 65536 text (omega (arith, h)) in
+        let whole : reading text ≡ too_long (read first) = ap (λ b. cond b (read text) (too_long (read first))) e in
+        let part : reading first ≡ too_long (read first) =
+        ap₂ (λ b xs. cond b (read first) (too_long (read xs))) (ap (λ k. nat_le k 65535) n) (take-take 65536 65536 text (omega arith)) in
+        ap (λ o. answer_of first (bind (refused_by Text o) (with_tree limits first))) part
+        ∙ (cut_short (read first) first text (with_tree limits first) (with_tree limits text)
+        ∙ sym (ap (λ o. answer_of text (bind (refused_by Text o) (with_tree limits text))) whole))

@@ -1,0 +1,56 @@
+// What is answered to a text, in print.
+ghost use Rattle.std.specs.Prelude.{◌≡◌, take, IfOk};
+ghost use Rattle.roles.specs.Answers.{answer};
+ghost use Rattle.roles.specs.Answered.{Answered, Refuses};
+
+use crate::translate::translate;
+use base::Refusal;
+use std::alloc::{AllocError, Global};
+use std::fmt::Write;
+use terms::limits::Limits;
+
+/// The first so many bytes of a text decide its answer.
+pub const DECISIVE: usize = 65536;
+
+/// The answer to a text, in print.
+#[derive(Drop)]
+pub struct Answer {
+    /// the programs of all roles, or a line that says why there are none, and where
+    pub text: String,
+    /// the refusal, if there are no programs
+    pub refusal: Option<Refusal>,
+}
+
+impl Answer {
+    /// Translates a text within limits. The bytes of the text from the 65,537th on do not count. There is an error only for want of memory.
+    pub fn to(heap: Global, text: &[u8], limits: Limits) -> Result<Answer, AllocError>
+        ensures answers { IfOk result (Answered limits text.now) }
+        ensures decided { answer limits (take 65536 text.now) ≡ answer limits text.now }
+    {
+        match translate(heap, text, limits) {
+            Ok(translation) => match translation.listing(heap, text) {
+                Ok(listing) => Ok(Answer {
+                    text: listing,
+                    refusal: None,
+                }),
+                Err(_) => Err(AllocError),
+            },
+            Err(fault) => match fault.refusal() {
+                Some(refusal) => refused(heap, refusal),
+                None => Err(AllocError),
+            },
+        }
+    }
+}
+
+// The answer of a refusal: its line.
+fn refused(heap: Global, refusal: Refusal) -> Result<Answer, AllocError>
+    ensures { IfOk result (Refuses refusal) }
+{
+    let mut line = String::new(heap);
+    writeln!(line, "{refusal}")?;
+    Ok(Answer {
+        text: line,
+        refusal: Some(refusal),
+    })
+}
