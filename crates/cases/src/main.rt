@@ -2,11 +2,10 @@
 #![tactic(auto)]
 
 use anyhow::anyhow;
-use roles::translate::translate;
-use roles::translation::Translation;
+use base::Refusal;
+use roles::answer::Answer;
 use std::{fmt, fs};
 use terms::limits::Limits;
-use base::Refusal;
 
 fn main(rt: HostRuntime) -> anyhow::Result<()> {
     run(&rt)
@@ -46,25 +45,17 @@ fn run(rt: &HostRuntime) -> anyhow::Result<()> {
 
 fn try_case(rt: &HostRuntime, name: &str) -> anyhow::Result<Outcome> {
     let text = fs::read(rt, format!(in rt.alloc(); "{name}.evl")?)?;
-    match translate(rt.alloc(), &text, Limits::standard()) {
-        Ok(translation) => compare(rt, name, &text, &translation),
-        Err(fault) => match fault.refusal() {
-            Some(refusal) => Ok(Outcome::Refused(refusal)),
-            None => Err(anyhow!("out of memory")),
-        },
+    let answer = Answer::to(rt.alloc(), &text, Limits::standard())?;
+    match answer.refusal {
+        Some(refusal) => Ok(Outcome::Refused(refusal)),
+        None => compare(rt, name, &answer),
     }
 }
 
 // Byte for byte. Where a refusal is expected, its line is in the file, and no program looks like it.
-fn compare(
-    rt: &HostRuntime,
-    name: &str,
-    text: &[u8],
-    translation: &Translation,
-) -> anyhow::Result<Outcome> {
+fn compare(rt: &HostRuntime, name: &str, answer: &Answer) -> anyhow::Result<Outcome> {
     let expected = fs::read(rt, format!(in rt.alloc(); "{name}.out")?)?;
-    let listing = translation.listing(rt.alloc(), text)?;
-    if listing.as_bytes() == expected.as_slice() {
+    if answer.text.as_bytes() == expected.as_slice() {
         Ok(Outcome::Accepted)
     } else {
         Ok(Outcome::Differs)

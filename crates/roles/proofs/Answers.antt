@@ -1,5 +1,5 @@
 -- What is answered in print: the rows of the code are the actions of the definition, and the first bytes of a text decide.
-use Rattle.std.proofs.Common.{◌≡◌, ℕ, Bool, true, false, cond, List, [], ◌∷◌, ◌++◌, map, length, take, codes, flat_map, string_bytes, None, Ok, Err, Result, refl, sym, ap, ap₂, ◌∙◌, arith, nat_le, nat_lt, vec_items}
+use Rattle.std.proofs.Common.{◌≡◌, ℕ, Bool, true, false, cond, List, [], ◌∷◌, ◌++◌, map, length, take, codes, flat_map, string_bytes, None, Ok, Err, Result, refl, sym, ap, ap₂, ◌∙◌, subst, arith, nat_le, nat_lt, vec_items}
 use Rattle.std.proofs.lemmas.List.{length-take-le, take_all, take-take}
 use Rattle.std.proofs.lemmas.Bool.{leb-true, leb-false}
 use Rattle.text.specs.Trees.{Tree}
@@ -21,7 +21,7 @@ use Rattle.roles.specs.declared.translation_fault.TranslationFault.{TranslationF
 use Rattle.roles.specs.declared.translation_fault.TranslationFault.TheVariants.{Text, Shape, Declarations, Lines}
 use Rattle.roles.specs.declared.answer.Answer.{Answer}
 use Rattle.roles.specs.Answers.{program_text, programs_text, refusal_of, answer_of, answer}
-use Rattle.roles.specs.Answered.{Answered}
+use Rattle.roles.specs.Answered.{Answered, Decided}
 use Rattle.roles.specs.Listing.{function_names, role_text, listing}
 use Rattle.roles.specs.Players.{lined, player_of}
 use Rattle.roles.specs.Stages.{Stage, refused_by, lines}
@@ -59,17 +59,31 @@ module _ (limits : Limits) (text : List ℕ) where
       }
 
 -- what follows a text that is too long does not look at it
-cut_short : (r : Result Tree TextFault) (text text' : List ℕ) (k k' : Tree → Result Stage TranslationFault)
-    → answer_of text (bind (refused_by Text (too_long r)) k) ≡ answer_of text' (bind (refused_by Text (too_long r)) k')
-cut_short (Ok t) text text' k k' = refl
-cut_short (Err (texts.Limit p)) text text' k k' = refl
-cut_short (Err (texts.Broken p)) text text' k k' = go (nat_lt p 65536)
-  where
-    go : (b : Bool)
-        → answer_of text (bind (refused_by Text (cond b (Err (texts.Broken p)) (Err (texts.Limit 65535)))) k) ≡ answer_of text' (bind (refused_by Text (cond b (Err (texts.Broken p)) (Err (texts.Limit 65535)))) k')
-    go true = refl
-    go false = refl
-cut_short (Err texts.NoMemory) text text' k k' = refl
+module _ (k k' : Tree → Result Stage TranslationFault) where
+  cut_short : (r : Result Tree TextFault) → bind (refused_by Text (too_long r)) k ≡ bind (refused_by Text (too_long r)) k'
+  cut_short (Ok t) = refl
+  cut_short (Err (texts.Limit p)) = refl
+  cut_short (Err (texts.Broken p)) = go (nat_lt p 65536)
+    where
+      go : (b : Bool)
+          → bind (refused_by Text (cond b (Err (texts.Broken p)) (Err (texts.Limit 65535)))) k ≡ bind (refused_by Text (cond b (Err (texts.Broken p)) (Err (texts.Limit 65535)))) k'
+      go true = refl
+      go false = refl
+  cut_short (Err texts.NoMemory) = refl
+
+-- it is refused, and so in the same words
+module _ (text text' : List ℕ) (k : Tree → Result Stage TranslationFault) where
+  same_words : (r : Result Tree TextFault) → answer_of text (bind (refused_by Text (too_long r)) k) ≡ answer_of text' (bind (refused_by Text (too_long r)) k)
+  same_words (Ok t) = refl
+  same_words (Err (texts.Limit p)) = refl
+  same_words (Err (texts.Broken p)) = go (nat_lt p 65536)
+    where
+      go : (b : Bool)
+          → answer_of text (bind (refused_by Text (cond b (Err (texts.Broken p)) (Err (texts.Limit 65535)))) k)
+          ≡ answer_of text' (bind (refused_by Text (cond b (Err (texts.Broken p)) (Err (texts.Limit 65535)))) k)
+      go true = refl
+      go false = refl
+  same_words (Err texts.NoMemory) = refl
 
 -- what is done with the tree of a text
 abbrev with_tree : Limits → List ℕ → Tree → Result Stage TranslationFault
@@ -78,18 +92,29 @@ with_tree limits text t =
     bind (refused_by Declarations (declared text limits S)) (λ U.
     refused_by Lines (lines limits text [] S.lines (record { scope = U; players = [] }))))
 
-pub first_bytes_decide : (limits : Limits) (text : List ℕ) → answer limits (take 65536 text) ≡ answer limits text
+first_bytes_decide : (limits : Limits) (text : List ℕ) → Decided limits text (take 65536 text)
 first_bytes_decide limits text = go (nat_le (length text) 65535) refl
   where
-    go : (b : Bool) → nat_le (length text) 65535 ≡ b → answer limits (take 65536 text) ≡ answer limits text
-    go true e = ap (answer limits) (let h = leb-true (length text) 65535 e in take_all 65536 text (omega (arith, h)))
+    go : (b : Bool) → nat_le (length text) 65535 ≡ b → Decided limits text (take 65536 text)
+    go true e =
+        let h = leb-true (length text) 65535 e in
+        let same = take_all 65536 text (omega (arith, h)) in
+        record { result = ap (translation limits) same; bytes = ap (answer limits) same }
     go false e =
         let first = take 65536 text in
         let h = leb-false (length text) 65535 e in
         let n = length-take-le 65536 text (omega (arith, h)) in
         let whole : reading text ≡ too_long (read first) = ap (λ b. cond b (read text) (too_long (read first))) e in
         let part : reading first ≡ too_long (read first) =
-        ap₂ (λ b xs. cond b (read first) (too_long (read xs))) (ap (λ k. nat_le k 65535) n) (take-take 65536 65536 text (omega arith)) in
-        ap (λ o. answer_of first (bind (refused_by Text o) (with_tree limits first))) part
-        ∙ (cut_short (read first) first text (with_tree limits first) (with_tree limits text)
-        ∙ sym (ap (λ o. answer_of text (bind (refused_by Text o) (with_tree limits text))) whole))
+            ap₂ (λ b xs. cond b (read first) (too_long (read xs))) (ap (λ k. nat_le k 65535) n) (take-take 65536 65536 text (omega arith)) in
+        let there : translation limits first ≡ bind (refused_by Text (too_long (read first))) (with_tree limits text) =
+            ap (λ o. bind (refused_by Text o) (with_tree limits first)) part ∙ cut_short (with_tree limits first) (with_tree limits text) (read first) in
+        let here : translation limits text ≡ bind (refused_by Text (too_long (read first))) (with_tree limits text) =
+            ap (λ o. bind (refused_by Text o) (with_tree limits text)) whole in
+        record {
+          result = there ∙ sym here;
+          bytes = ap (answer_of first) there ∙ (same_words first text (with_tree limits text) (read first) ∙ sym (ap (answer_of text) here));
+        }
+
+pub beginning_decides : (limits : Limits) (text whole : List ℕ) → take 65536 whole ≡ text → Decided limits whole text
+beginning_decides limits text whole e = subst (Decided limits whole) e (first_bytes_decide limits whole)

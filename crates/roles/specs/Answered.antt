@@ -14,3 +14,8 @@ pub record Answered (limits : Limits) (text : List ℕ) (a : Answer) : Type 0 wh
 pub record Refuses (r : Refusal) (a : Answer) : Type 0 where
   pub bytes : string_bytes a.text ≡ refusal_line (Some r)
   pub refusal : a.refusal ≡ Some r
+
+-- one text decides what is answered to another
+pub record Decided (limits : Limits) (text part : List ℕ) : Type 0 where
+  pub result : translation limits part ≡ translation limits text
+  pub bytes : answer limits part ≡ answer limits text

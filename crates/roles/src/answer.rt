@@ -1,7 +1,6 @@
 // What is answered to a text, in print.
-ghost use Rattle.std.specs.Prelude.{◌≡◌, take, IfOk};
-ghost use Rattle.roles.specs.Answers.{answer};
-ghost use Rattle.roles.specs.Answered.{Answered, Refuses};
+ghost use Rattle.std.specs.Prelude.{◌≡◌, ℕ, List, take, IfOk};
+ghost use Rattle.roles.specs.Answered.{Answered, Decided, Refuses};
 
 use crate::translate::translate;
 use base::Refusal;
@@ -22,10 +21,10 @@ pub struct Answer {
 }
 
 impl Answer {
-    /// Translates a text within limits. The bytes of the text from the 65,537th on do not count. There is an error only for want of memory.
+    /// Translates a text within limits. The first 65,536 bytes of a text decide its answer. There is an error only for want of memory.
     pub fn to(heap: Global, text: &[u8], limits: Limits) -> Result<Answer, AllocError>
         ensures answers { IfOk result (Answered limits text.now) }
-        ensures decided { answer limits (take 65536 text.now) ≡ answer limits text.now }
+        ensures decided { (whole : List ℕ) → take 65536 whole ≡ text.now → Decided limits whole text.now }
     {
         match translate(heap, text, limits) {
             Ok(translation) => match translation.listing(heap, text) {
