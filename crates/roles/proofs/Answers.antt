@@ -11,7 +11,7 @@ use Rattle.program.specs.Printed.{written, row_text, step_text}
 use Rattle.terms.specs.declared.declarations.Function.{Function}
 use Rattle.terms.specs.declared.limits.Limits.{Limits}
 use Rattle.terms.specs.declared.table.TermTable.{TermTable}
-use Rattle.terms.specs.Meanings.{Means, signature_of}
+use Rattle.terms.specs.Meanings.{functions_of, signature_of}
 use Rattle.terms.specs.Scope.{Scope, Signature, bytes}
 use Rattle.terms.specs.Declaring.{bind, declared}
 use Rattle.syntax.specs.Shape.{shape}
@@ -25,7 +25,7 @@ use Rattle.roles.specs.Answered.{Answered, Decided}
 use Rattle.roles.specs.Listing.{function_names, role_text, listing}
 use Rattle.roles.specs.Players.{lined, player_of}
 use Rattle.roles.specs.Stages.{Stage, refused_by, lines}
-use Rattle.roles.specs.Staging.{Staged, stage_of}
+use Rattle.roles.specs.Staging.{stage_of}
 use Rattle.roles.specs.Translating.{translation}
 
 module _ (text : List ℕ) where
@@ -44,18 +44,17 @@ module _ (text : List ℕ) where
   roles_are names t [] = refl
   roles_are names t (r ∷ rs) = ap₂ (λ xs ys. xs ++ ys) (role_is names t r) (roles_are names t rs)
 
-  listing_is : (T : Translation) (U : Scope) → Means T.declarations U → listing text T ≡ programs_text text (stage_of T U)
-  listing_is T U m =
-      roles_are (function_names text (vec_items T.declarations.functions)) T.declarations.terms (vec_items T.roles)
-      ∙ ap (λ names. flat_map (program_text text names) (map (player_of T.declarations.terms) (vec_items T.roles)))
-      (names_are (vec_items T.declarations.functions) ∙ ap (λ (fs : List Signature). map (λ (f : Signature). written (bytes text f.name)) fs) m.functions)
+  listing_is : (T : Translation) → listing text T ≡ programs_text text (stage_of T)
+  listing_is T =
+      roles_are (function_names text (functions_of T.declarations)) T.declarations.terms (vec_items T.roles)
+      ∙ ap (λ names. flat_map (program_text text names) (map (player_of T.declarations.terms) (vec_items T.roles))) (names_are (functions_of T.declarations))
 
 module _ (limits : Limits) (text : List ℕ) where
-  pub programs_answered : (T : Translation) (a : Answer) → Staged (translation limits text) T → string_bytes a.text ≡ listing text T → a.refusal ≡ None → Answered limits text a
+  pub programs_answered : (T : Translation) (a : Answer) → translation limits text ≡ Ok (stage_of T) → string_bytes a.text ≡ listing text T → a.refusal ≡ None → Answered limits text a
   programs_answered T a s e n =
       record {
-        bytes = e ∙ listing_is text T s.scope s.means ∙ sym (ap (answer_of text) s.is);
-        refusal = n ∙ sym (ap refusal_of s.is);
+        bytes = e ∙ listing_is text T ∙ sym (ap (answer_of text) s);
+        refusal = n ∙ sym (ap refusal_of s);
       }
 
 -- what follows a text that is too long does not look at it
@@ -69,7 +68,7 @@ module _ (k k' : Tree → Result Stage TranslationFault) where
           → bind (refused_by Text (cond b (Err (texts.Broken p)) (Err (texts.Limit 65535)))) k ≡ bind (refused_by Text (cond b (Err (texts.Broken p)) (Err (texts.Limit 65535)))) k'
       go true = refl
       go false = refl
-  cut_short (Err texts.NoMemory) = refl
+  cut_short (Err (texts.NoMemory w)) = refl
 
 -- it is refused, and so in the same words
 module _ (text text' : List ℕ) (k : Tree → Result Stage TranslationFault) where
@@ -83,7 +82,7 @@ module _ (text text' : List ℕ) (k : Tree → Result Stage TranslationFault) wh
           ≡ answer_of text' (bind (refused_by Text (cond b (Err (texts.Broken p)) (Err (texts.Limit 65535)))) k)
       go true = refl
       go false = refl
-  same_words (Err texts.NoMemory) = refl
+  same_words (Err (texts.NoMemory w)) = refl
 
 -- what is done with the tree of a text
 abbrev with_tree : Limits → List ℕ → Tree → Result Stage TranslationFault
@@ -106,11 +105,11 @@ first_bytes_decide limits text = go (nat_le (length text) 65535) refl
         let n = length-take-le 65536 text (omega (arith, h)) in
         let whole : reading text ≡ too_long (read first) = ap (λ b. cond b (read text) (too_long (read first))) e in
         let part : reading first ≡ too_long (read first) =
-            ap₂ (λ b xs. cond b (read first) (too_long (read xs))) (ap (λ k. nat_le k 65535) n) (take-take 65536 65536 text (omega arith)) in
+        ap₂ (λ b xs. cond b (read first) (too_long (read xs))) (ap (λ k. nat_le k 65535) n) (take-take 65536 65536 text (omega arith)) in
         let there : translation limits first ≡ bind (refused_by Text (too_long (read first))) (with_tree limits text) =
-            ap (λ o. bind (refused_by Text o) (with_tree limits first)) part ∙ cut_short (with_tree limits first) (with_tree limits text) (read first) in
+        ap (λ o. bind (refused_by Text o) (with_tree limits first)) part ∙ cut_short (with_tree limits first) (with_tree limits text) (read first) in
         let here : translation limits text ≡ bind (refused_by Text (too_long (read first))) (with_tree limits text) =
-            ap (λ o. bind (refused_by Text o) (with_tree limits text)) whole in
+        ap (λ o. bind (refused_by Text o) (with_tree limits text)) whole in
         record {
           result = there ∙ sym here;
           bytes = ap (answer_of first) there ∙ (same_words first text (with_tree limits text) (read first) ∙ sym (ap (answer_of text) here));
