@@ -17,6 +17,8 @@ use Rattle.terms.specs.declared.declarations.Function.{Function}
 use Rattle.terms.specs.declared.declarations.Meaning.TheVariants as meaning
 use Rattle.terms.specs.declared.declarations.ValueType.{ValueType}
 use Rattle.terms.specs.declared.fault.TermFault.TheVariants.{WrongType}
+use Rattle.text.specs.declared.part.Part.{Part}
+use Rattle.terms.specs.Consistency.{Defined}
 use Rattle.terms.specs.Scope.{Scope, Signature, no_function, declares, meaning_of}
 use Rattle.terms.specs.Typing.{and_then, fits, applied, applied_fits, typed, typed_all}
 use Rattle.terms.specs.Meanings.{signature_of, scope_of}
@@ -28,18 +30,18 @@ function_at : (fs : List Function) (g at : ℕ) → g < length fs → (o : Optio
 function_at fs g at h None i = absurd (let z = i.2 h in cc)
 function_at fs g at h (Some f) i = ap Ok (ap signature_of i.1 ∙ sym (get_or-map signature_of fs g f.now no_function h))
 
-module _ (text : List ℕ) (d : Declarations) (n : Name) (g : ℕ) (e : meaning_of text (vec_items d.names) n.part ≡ Some (meaning.Function g)) where
-  -- a function's name stands for one of the functions
-  within : g < vec_len d.functions
-  within = go (find (declares text n.part) (vec_items d.names)) refl e
-    where
-      go : (o : Option Declared) → find (declares text n.part) (vec_items d.names) ≡ o → option_map (λ (x : Declared). x.meaning) o ≡ Some (meaning.Function g) → g < vec_len d.functions
-      go None q e = absurd (cc)
-      go (Some x) q e = let a = found_place (declares text n.part) (vec_items d.names) x q in d.defined a.0 g x a.1 (ap (λ (x : Declared). x.meaning) a.2 ∙ cc)
+-- a function's name stands for one of the functions
+pub function_within : (text : List ℕ) (names : List Declared) (many : ℕ) → Defined names many → (p : Part) (g : ℕ) → meaning_of text names p ≡ Some (meaning.Function g) → g < many
+function_within text names many m p g e = go (find (declares text p) names) refl e
+  where
+    go : (o : Option Declared) → find (declares text p) names ≡ o → option_map (λ (x : Declared). x.meaning) o ≡ Some (meaning.Function g) → g < many
+    go None q e = absurd (cc)
+    go (Some x) q e = let a = found_place (declares text p) names x q in m a.0 g x a.1 (ap (λ (x : Declared). x.meaning) a.2 ∙ cc)
 
+module _ (text : List ℕ) (d : Declarations) (n : Name) (g : ℕ) (e : meaning_of text (vec_items d.names) n.part ≡ Some (meaning.Function g)) where
   pub function_found : (fs : List Function) → fs ≡ vec_items d.functions → (o : Option (Bor Function)) → IsItemAt fs g o → found (ok_or o (WrongType n.at)) ≡ applied (scope_of d).functions n (meaning_of text (scope_of d).names n.part)
   function_found fs q o i =
-      let h : g < length fs = let l = ap length q in let w = within in let k = d.functions.ok.0 in omega arith in
+      let h : g < length fs = let l = ap length q in let w = function_within text (vec_items d.names) (vec_len d.functions) d.defined n.part g e in let k = d.functions.ok.0 in omega arith in
       function_at fs g n.at h o i ∙ ap (λ fs. Ok (get_or (map signature_of fs) g no_function)) q ∙ ap (applied (scope_of d).functions n) (sym e)
 
 pub count-terms : (ts : List TermValue) → count (terms_of ts) ≡ length ts

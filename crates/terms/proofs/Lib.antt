@@ -3,6 +3,7 @@ pub mod Views
 pub mod Tables
 pub mod ListedTrees
 pub mod TermAnswers
+pub mod TermTypes
 pub mod Interning
 pub mod Growing
 pub mod Naming

@@ -16,3 +16,4 @@ pub mod Starting
 pub mod Declares
 pub mod Counts
 pub mod Consistency
+pub mod TermTypes
