@@ -53,7 +53,7 @@ module _ (P : Tree → Type 0) where
   }
 
 -- one term
-has_old : (t : Tree) (us : List Tree) → has t us ≡ true → (u : Tree) → (has u us || eq_tree u t) ≡ has u us
+pub has_old : (t : Tree) (us : List Tree) → has t us ≡ true → (u : Tree) → (has u us || eq_tree u t) ≡ has u us
 has_old t us e u = go (eq_tree u t) (eq_tree_is u t)
   where
     go : (b : Bool) → (T b → u ≡ t) → (has u us || b) ≡ has u us
@@ -61,7 +61,7 @@ has_old t us e u = go (eq_tree u t) (eq_tree_is u t)
     go true f = or-true (has u us) ∙ sym (ap (λ z. has z us) (f tt) ∙ e)
 
 -- it was there, and nothing changed; or it was not, and is the last
-noted_either : (most at : ℕ) (t : Tree) (us vs : List Tree) → noted most at t us ≡ Ok vs → ((has t us ≡ true) × (vs ≡ us)) ⊎ ((has t us ≡ false) × (vs ≡ us ++ (t ∷ [])))
+pub noted_either : (most at : ℕ) (t : Tree) (us vs : List Tree) → noted most at t us ≡ Ok vs → ((has t us ≡ true) × (vs ≡ us)) ⊎ ((has t us ≡ false) × (vs ≡ us ++ (t ∷ [])))
 noted_either most at t us vs e = go (has t us) (leb most (length us)) refl e
   where
     go : (b c : Bool) → has t us ≡ b → cond b (Ok us) (cond c (Err (Limit at)) (Ok (us ++ (t ∷ [])))) ≡ Ok vs → ((has t us ≡ true) × (vs ≡ us)) ⊎ ((has t us ≡ false) × (vs ≡ us ++ (t ∷ [])))

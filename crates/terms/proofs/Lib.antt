@@ -28,3 +28,4 @@ pub mod CountedScopes
 pub mod Parts
 pub mod Shaped
 pub mod Few
+pub mod TermNumbers

@@ -16,7 +16,7 @@ use Rattle.terms.specs.Meanings.{Lists}
 use Rattle.terms.specs.Reads.{Gives}
 use Rattle.terms.proofs.Tables.{row_of_tree}
 
-has_there : (u : Tree) (us : List Tree) (k : ℕ) → k < length us → get_or us k (leaf 0) ≡ u → has u us ≡ true
+pub has_there : (u : Tree) (us : List Tree) (k : ℕ) → k < length us → get_or us k (leaf 0) ≡ u → has u us ≡ true
 has_there u [] k h e = absurd (omega arith)
 has_there u (v ∷ us) zero h e = go (eq_tree u v) (is_eq_tree u v (sym e))
   where
@@ -29,7 +29,7 @@ has_there u (v ∷ us) (suc k) h e = go (eq_tree u v) (has_there u us k (omega a
     go true t = refl
     go false t = t
 
-has_place : (u : Tree) (us : List Tree) → has u us ≡ true → (k : ℕ) × ((k < length us) × (get_or us k (leaf 0) ≡ u))
+pub has_place : (u : Tree) (us : List Tree) → has u us ≡ true → (k : ℕ) × ((k < length us) × (get_or us k (leaf 0) ≡ u))
 has_place u [] e = absurd (cc)
 has_place u (v ∷ us) e = go (eq_tree u v) (eq_tree_is u v) e (λ q. has_place u us q)
   where

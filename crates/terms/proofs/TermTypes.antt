@@ -1,14 +1,12 @@
 -- The check of types decides the rules, and answers what is first wrong.
-use Rattle.std.proofs.Common.{◌≡◌, ◌==◌, ℕ, zero, suc, ◌<◌, Bool, true, false, cond, List, [], ◌∷◌, ◌++◌, length, get_or, Some, None, Ok, Err, Option, Result, sym, refl, ap, ap₂, ◌∙◌, subst, arith}
-use Rattle.std.specs.Prelude.{◌↔◌, ◌≢◌, slice_get}
-use Rattle.std.proofs.lemmas.List.{append_assoc}
+use Rattle.std.proofs.Common.{◌≡◌, ◌==◌, ℕ, zero, suc, ◌<◌, Bool, true, false, cond, List, [], ◌∷◌, ◌++◌, length, get_or, Some, None, Ok, Err, Option, Result, vec_items, sym, refl, ap, ap₂, ◌∙◌, subst, arith}
+use Rattle.std.specs.Prelude.{slice_get}
+use Rattle.std.proofs.lemmas.List.{length-map}
 use Rattle.std.proofs.lemmas.Bool.{eqb-true, eq-eqb, ne_eqb}
 use Rattle.model.specs.Lists.{Every}
-use Rattle.model.proofs.Lists.{every_join}
-use Rattle.text.specs.declared.part.Part.{Part}
 use Rattle.syntax.specs.declared.spec.Name.{Name}
 use Rattle.syntax.specs.Specs.{Term, name, tuple, crypt, apply, Terms, none, more, count}
-use Rattle.terms.specs.declared.declarations.Declared.{Declared}
+use Rattle.terms.specs.declared.declarations.Declarations.{Declarations}
 use Rattle.terms.specs.declared.declarations.Meaning.{Meaning}
 use Rattle.terms.specs.declared.declarations.Meaning.TheVariants as meaning
 use Rattle.terms.specs.declared.declarations.ValueType.{ValueType}
@@ -18,6 +16,7 @@ use Rattle.terms.specs.declared.fault.TermFault.TheVariants.{Undeclared, WrongTy
 use Rattle.terms.proofs.Checking.{function_within}
 use Rattle.terms.proofs.Terming.{then_ok, first_ok}
 use Rattle.terms.specs.Consistency.{Defined}
+use Rattle.terms.specs.Meanings.{signature_of, scope_of}
 use Rattle.terms.specs.Scope.{Scope, Signature, no_function, meaning_of}
 use Rattle.terms.specs.Typing.{and_then, stands_for, fits, name_fits, applied, applied_fits, typed, typed_all}
 use Rattle.terms.specs.TermTypes as rules
@@ -272,7 +271,14 @@ module _ (text : List ℕ) (S : Scope) (d : Defined S.names (length S.functions)
   typing_law = record {
     good = λ t w. (ruled t w, good_term t w);
     faulty = λ t w f. (
-        (λ e. first_wrong (nodes text S t w) f (sym (walked t w) ∙ e)),
-        (λ r. walked t w ∙ ap (first text S) r.all ∙ wrong_first r.before r.node r.after f r.sound r.wrong),
+      (λ e. first_wrong (nodes text S t w) f (sym (walked t w) ∙ e)),
+      (λ r. walked t w ∙ ap (first text S) r.all ∙ wrong_first r.before r.node r.after f r.sound r.wrong),
     );
   }
+
+-- so it is in what is declared
+pub typing_law_of : (text : List ℕ) (d : Declarations) → TypingLaw text (scope_of d)
+typing_law_of text d =
+    let n = length-map (vec_items d.functions) signature_of in
+    let k = d.functions.ok.0 in
+    typing_law text (scope_of d) (λ i f x h e. let l = d.defined i f x h e in omega arith)

@@ -17,3 +17,4 @@ pub mod Declares
 pub mod Counts
 pub mod Consistency
 pub mod TermTypes
+pub mod TermNumbers

@@ -1,5 +1,5 @@
 // The number of a term: equal terms have one, parts are numbered before the whole.
-ghost use Rattle.std.specs.Prelude.{◌≡◌, ◌<◌, min, IfOk};
+ghost use Rattle.std.specs.Prelude.{◌≡◌, ◌<◌, min, IfOk, OnOk};
 ghost use Rattle.syntax.specs.Views.{term_of, terms_of};
 ghost use Rattle.terms.specs.Shapes.{AllBelow};
 ghost use Rattle.terms.specs.Terms.{size, Grows};
@@ -7,6 +7,9 @@ ghost use Rattle.terms.specs.Meanings.{scope_of};
 ghost use Rattle.terms.specs.Reads.{SameNames, Reads, ReadsAll};
 ghost use Rattle.terms.specs.Rows.{Begins};
 ghost use Rattle.terms.specs.Termed.{Termed};
+ghost use Rattle.terms.specs.TermTypes.{TypingLaw};
+ghost use Rattle.terms.specs.TermNumbers.{Follows};
+ghost use Rattle.terms.specs.Numbering.{tree};
 
 use crate::declarations::{Declarations, ValueType};
 use crate::fault::TermFault;
@@ -21,8 +24,11 @@ const MOST_PARTS: usize = 8;
 impl Declarations {
     /// The number of a term, which is added with its parts if it is not there. Its types are checked first; a limit is passed at
     /// the node that is one term too many, or at a bracket of more than eight parts. A refusal leaves all as it was.
+    #[tactic(auto, using(crate::proofs::TermTypes::typing_law_of))]
     pub fn term(&mut self, text: &[u8], term: &Term, limits: Limits) -> Result<u16, TermFault>
-        ensures { Termed text.now (min limits.terms 512) (term_of term.now) (scope_of self.old) (scope_of self.new) result }
+        ensures termed { Termed text.now (min limits.terms 512) (term_of term.now) (scope_of self.old) (scope_of self.new) result }
+        ensures types { TypingLaw text.now (scope_of self.old) }
+        ensures numbers { OnOk result (Follows (tree text.now (scope_of self.old).names (term_of term.now)) (scope_of self.old).terms (scope_of self.new).terms) }
     {
         self.check(text, term, ValueType::Number)?;
         let before = self.terms.len();
