@@ -15,24 +15,24 @@ use Rattle.roles.proofs.AllFit.{all_fit_grows, all_fit_at, all_fit_after, all_ke
 use Rattle.roles.proofs.translation.Translation.message.Goals as goal
 
 pub say-requires-clause-within : goal.say-requires-clause-within
-say-requires-clause-within c = rw c.terms-table.ensures (number_there c.args.input.text.now _ (term_of c.args.message.now) c.args.self.now.declarations c.term.new.self c.in_ok-term.term c.in_ok-term.ensures)
+say-requires-clause-within c = rw c.terms-table.ensures (number_there c.args.input.text.now _ (term_of c.args.message.now) c.args.self.now.declarations c.term.new.self c.in_ok-term.term c.in_ok-term.ensures.termed)
 
 pub say-requires-clause-fits : goal.say-requires-clause-fits
 say-requires-clause-fits c =
     let rs = vec_items c.args.self.now.roles in
-    let g = table_grows c.args.input.text.now _ (term_of c.args.message.now) c.args.self.now.declarations c.term.new.self c.in_ok-term.term c.in_ok-term.ensures in
+    let g = table_grows c.args.input.text.now _ (term_of c.args.message.now) c.args.self.now.declarations c.term.new.self c.in_ok-term.term c.in_ok-term.ensures.termed in
     let f = all_fit_grows c.args.self.now.declarations.terms c.term.new.self.terms g rs c.requires.fit in
     rw c.terms-table.ensures (all_fit_at c.term.new.self.terms rs c.args.sender c.index_mut.result.now f c.requires.sender c.index_mut.ensures.value)
 
 pub hear-requires-clause-within : goal.hear-requires-clause-within
-hear-requires-clause-within c = rw c.terms-table.ensures (number_there c.args.input.text.now _ (term_of c.args.message.now) c.args.self.now.declarations c.term.new.self c.in_ok-term.term c.in_ok-term.ensures)
+hear-requires-clause-within c = rw c.terms-table.ensures (number_there c.args.input.text.now _ (term_of c.args.message.now) c.args.self.now.declarations c.term.new.self c.in_ok-term.term c.in_ok-term.ensures.termed)
 
 pub hear-requires-clause-fits : goal.hear-requires-clause-fits
 hear-requires-clause-fits c =
     let rs = vec_items c.args.self.now.roles in
     let n = length-set rs c.args.sender c.say.new.self in
     let h = c.requires.receiver in
-    let g = table_grows c.args.input.text.now _ (term_of c.args.message.now) c.args.self.now.declarations c.term.new.self c.in_ok-term.term c.in_ok-term.ensures in
+    let g = table_grows c.args.input.text.now _ (term_of c.args.message.now) c.args.self.now.declarations c.term.new.self c.in_ok-term.term c.in_ok-term.ensures.termed in
     let f = all_fit_after c.args.self.now.declarations.terms c.term.new.self.terms g rs c.requires.fit c.args.sender c.say.new.self (rw c.terms-table.ensures at c.in_ok-say.ensures.fits) in
     rw c.terms-table.ensures (all_fit_at c.term.new.self.terms _ c.args.receiver c.index_mut-2.result.now f (omega arith) c.index_mut-2.ensures.value)
 
@@ -42,7 +42,7 @@ returns-in_err-say c =
     let m = term_of c.args.message.now in
     let d = c.args.self.now.declarations in
     let d' = c.term.new.self in
-    let w = c.in_ok-term.ensures in
+    let w = c.in_ok-term.ensures.termed in
     let p = err_from_is_err_and c.from_residual-in_err-say.result c.from_residual-in_err-say.ensures.1 in
     let those = made_there (scope_of d) (scope_of d') c.as_slice.ensures.value c.in_ok-made.ensures.made (rw c.terms.ensures at c.len-before.ensures) (lists_of d.terms).long in record {
       keeps = rw p.1 tt;
@@ -62,7 +62,7 @@ returns c =
     let m = term_of c.args.message.now in
     let d = c.args.self.now.declarations in
     let d' = c.term.new.self in
-    let w = c.in_ok-term.ensures in
+    let w = c.in_ok-term.ensures.termed in
     let g = table_grows text _ m d d' c.in_ok-term.term w in
     let rs = vec_items c.args.self.now.roles in
     let n = length-set rs c.args.sender c.say.new.self in
