@@ -8,7 +8,7 @@ use Rattle.run.specs.Shown.{Meaning, Small}
 use Rattle.sessions.specs.declared.reply.Reply.{Reply}
 use Rattle.sessions.specs.declared.request.Request.{Request}
 use Rattle.sessions.specs.Happening.{Named, Did, Happened}
-use Rattle.sessions.specs.Moving.{Does}
+use Rattle.sessions.specs.Replies.{Does}
 use Rattle.sessions.specs.Observed.{Step}
 use Rattle.sessions.specs.Performing.{Performed}
 use Rattle.sessions.proofs.RunLaw.{lawful_points}
@@ -27,9 +27,9 @@ module _ {S : Type 0} (means : S → Meaning) (space : S → ℕ) (cost : Tree �
   named_more (x ∷ H) e rs n q = (n.0, named_more H e (rs ++ (x.reply ∷ [])) n.1 (q ∙ sym (append_assoc rs (x.reply ∷ []) (map (λ (x : Step S). x.reply) H))))
 
   happened_more : (H : List (Step S)) (e : Step S) (first : S) (fresh : List Run) (s : S) (runs : List Run) → Happened means space cost first fresh H s runs → Did means space cost s runs e
-      → Happened means space cost first fresh (H ++ (e ∷ [])) e.after e.runs
+      → Happened means space cost first fresh (H ++ (e ∷ [])) e.after e.runs_after
   happened_more [] e first fresh s runs h d = (subst (λ z. Did means space cost z fresh e) h.0 (subst (λ z. Did means space cost s z e) h.1 d), (refl, refl))
-  happened_more (x ∷ H) e first fresh s runs h d = (h.0, happened_more H e x.after x.runs s runs h.1 d)
+  happened_more (x ∷ H) e first fresh s runs h d = (h.0, happened_more H e x.after x.runs_after s runs h.1 d)
 
   -- so far
   pub record Halfway (first s : S) (fresh runs : List Run) (qs : List Request) (rs : List Reply) : Type 0 where
@@ -44,25 +44,25 @@ module _ {S : Type 0} (means : S → Meaning) (space : S → ℕ) (cost : Tree �
 
   -- one request more
   pub halfway_one : (first s s' : S) (fresh runs runs' : List Run) (qs : List Request) (rs : List Reply) (q : Request) (r : Reply)
-      → Does means space cost s s' runs runs' rs q (Ok r) → Halfway first s fresh runs qs rs → Halfway first s' fresh runs' (qs ++ (q ∷ [])) (rs ++ (r ∷ []))
+      → Does means space cost s s' runs runs' rs q r → Halfway first s fresh runs qs rs → Halfway first s' fresh runs' (qs ++ (q ∷ [])) (rs ++ (r ∷ []))
   halfway_one first s s' fresh runs runs' qs rs q r d h = record {
     history = h.history ++ (e ∷ []);
     asked = asked_more h.history e ∙ ap (λ l. l ++ (q ∷ [])) h.asked;
     replied = replied_more h.history e ∙ ap (λ l. l ++ (r ∷ [])) h.replied;
     named = named_more h.history e [] h.named (sym h.replied);
-    happened = happened_more h.history e first fresh s runs h.happened (record { before = refl; does = d });
+    happened = happened_more h.history e first fresh s runs h.happened (record { before = refl; runs_before = refl; does = d });
   }
     where
       e : Step S
-      e = record { earlier = rs; asked = q; reply = r; before = s; after = s'; runs = runs' }
+      e = record { earlier = rs; asked = q; reply = r; before = s; after = s'; runs_before = runs; runs_after = runs' }
 
   pub halfway_more : (first s s' : S) (fresh runs runs' : List Run) (qs : List Request) (i : ℕ) (q : Request) → i < length qs → q ≡ get_or qs i q → (xs rs rs' : List Reply) → xs ≡ rs → (r : Reply)
-      → Does means space cost s s' runs runs' xs q (Ok r) → rs' ≡ rs ++ (r ∷ []) → Halfway first s fresh runs (take i qs) rs → Halfway first s' fresh runs' (take (i + 1) qs) rs'
+      → Does means space cost s s' runs runs' xs q r → rs' ≡ rs ++ (r ∷ []) → Halfway first s fresh runs (take i qs) rs → Halfway first s' fresh runs' (take (i + 1) qs) rs'
   halfway_more first s s' fresh runs runs' qs i q l is xs rs rs' same r o e h =
       subst⁻¹ (λ zs. Halfway first s' fresh runs' zs rs') (take_more qs i q l)
       (subst⁻¹ (λ ys. Halfway first s' fresh runs' (take i qs ++ (get_or qs i q ∷ [])) ys) e
       (halfway_one first s s' fresh runs runs' (take i qs) rs (get_or qs i q) r
-      (subst (λ p. Does means space cost s s' runs runs' rs p (Ok r)) is (subst (λ zs. Does means space cost s s' runs runs' zs q (Ok r)) same o)) h))
+      (subst (λ p. Does means space cost s s' runs runs' rs p r) is (subst (λ zs. Does means space cost s s' runs runs' zs q r) same o)) h))
 
   -- what was performed is lawful
   pub all_performed : (small : (s : S) → Small (means s)) (first s : S) (fresh runs : List Run) (qs : List Request) (rs : List Reply) → Halfway first s fresh runs qs rs
@@ -73,9 +73,5 @@ module _ {S : Type 0} (means : S → Meaning) (space : S → ℕ) (cost : Tree �
     replied = h.replied;
     named = h.named;
     happened = h.happened;
-    lawful = λ X old new past b k es rest e. lawful_points means space cost X b.accepted small old new b past first fresh k h.history s runs h.happened es rest e;
+    lawful = λ X old new past b k es rest e. lawful_points means space cost small X b.accepted old new b past first fresh k h.history s runs h.happened es rest e;
   }
-
-  pub some_performed : (small : (s : S) → Small (means s)) (first s : S) (fresh runs : List Run) (qs : List Request) (n : ℕ) (rs : List Reply) → Halfway first s fresh runs (take n qs) rs
-      → (count : ℕ) × (replies : List Reply) × Performed means space cost first s fresh runs (take count qs) replies
-  some_performed small first s fresh runs qs n rs h = (n, rs, all_performed small first s fresh runs (take n qs) rs h)

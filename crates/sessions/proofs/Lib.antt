@@ -1,3 +1,6 @@
+pub mod Standing
+pub mod There
+pub mod Events
 pub mod Places
 pub mod Advancing
 pub mod Naming

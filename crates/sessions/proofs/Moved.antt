@@ -20,9 +20,10 @@ use Rattle.run.proofs.Holding.{holds_still}
 use Rattle.sessions.specs.declared.reply.Reply.{Reply}
 use Rattle.sessions.specs.declared.reply.Reply.TheVariants as replies
 use Rattle.sessions.specs.Plays.{Playing, put, turned, play}
-use Rattle.sessions.specs.Replying.{Made, reply_by, reply_of, Untouched}
-use Rattle.sessions.specs.Requests.{of_role, of_maker}
-use Rattle.sessions.specs.Standing.{role_of, Stands, Moves}
+use Rattle.sessions.specs.Replies.{Made, reply_by, reply_of}
+use Rattle.sessions.proofs.Events.{Untouched}
+use Rattle.sessions.proofs.Events.{of_role, of_maker}
+use Rattle.sessions.proofs.Standing.{role_of, Stands, Moves}
 
 -- a store that keeps its handles shows the same
 pub shows_still : (m m' : Meaning) → Kept m m' → (run : Run) (w : Plain) → Shows m run w → Shows m' run w

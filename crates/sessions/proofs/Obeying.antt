@@ -25,15 +25,17 @@ use Rattle.model.proofs.Answering.{decides}
 use Rattle.run.specs.declared.run.Run.{Run}
 use Rattle.run.specs.declared.fault.RunFault.{RunFault}
 use Rattle.run.specs.Called.{said}
-use Rattle.run.specs.Shown.{Meaning, as_option}
+use Rattle.run.specs.Shown.{Meaning, Small, as_option}
 use Rattle.sessions.specs.declared.reply.Reply.TheVariants as replies
 use Rattle.sessions.specs.declared.request.Handle.{Handle}
 use Rattle.sessions.specs.declared.request.Request.{Request}
 use Rattle.sessions.specs.declared.request.Request.TheVariants.{Begin, Say, Hear, Register, Atom, Tuple, Crypt, Apply, Shape, Part, Unlock, Same, Space}
 use Rattle.sessions.specs.Happening.{Did}
 use Rattle.sessions.specs.Observed.{Step, calls, taken as is_taken, taken_by, values_at, values_in, each_once, names_of_all, stock, first_of, next_duty}
-use Rattle.sessions.specs.Replying.{Replies, reply_of, Took, Told as SaidSo, Untouched}
-use Rattle.sessions.specs.Requests.{handle_of, event_of}
+use Rattle.sessions.specs.Replies.{reply_of}
+use Rattle.sessions.proofs.Events.{Replies, Took, Told as SaidSo, Untouched}
+use Rattle.sessions.specs.Requests.{handle_of}
+use Rattle.sessions.proofs.Events.{event_of}
 use Rattle.sessions.specs.RunLaw.{Refused, InTurn, RightCounts, Decided}
 use Rattle.sessions.proofs.Naming.{given_once, makes_are}
 use Rattle.sessions.proofs.Places.{Place, place, drop_more, turn_for, turn_same}
@@ -137,8 +139,8 @@ module _ (X : Specification) where
             (and_right (eqb (length hs) (sessions.gives (first_actions (stages X r)))) (eqb (length ns) (sessions.news (all_actions (stages X r)))) t) ∙ news_all,
       )
 
-module _ {S : Type 0} (means : S → Meaning) (space : S → ℕ) (cost : Tree → ℕ) (X : Specification) (acc : Accepted X) where
-  module _ (H : List (Step S)) (s : S) (runs : List Run) (st : State) (a : At means space cost X acc H s runs st) where
+module _ {S : Type 0} (means : S → Meaning) (space : S → ℕ) (cost : Tree → ℕ) (small : (s : S) → Small (means s)) (X : Specification) (acc : Accepted X) where
+  module _ (H : List (Step S)) (s : S) (runs : List Run) (st : State) (a : At means space cost small X acc H s runs st) where
     -- what a role holds
     pub stock_same : (r : ℕ) → (st.views r).holdings ≡ stock means X r H
     stock_same r = ap₂ (λ (x : List (Tree × Tree)) (y : List (ℕ × ℕ)). record { taken = x; made = y }) (a.tells r).taken (a.tells r).made
@@ -182,7 +184,7 @@ module _ {S : Type 0} (means : S → Meaning) (space : S → ℕ) (cost : Tree �
 
     module _ (e : Step S) (d : Did means space cost s runs e) where
       abbrev ev : Event
-      ev = event means space cost X acc e
+      ev = event means space cost small X acc e
 
       abbrev answered : Answer
       answered = (call cost st ev).1
@@ -192,7 +194,7 @@ module _ {S : Type 0} (means : S → Meaning) (space : S → ℕ) (cost : Tree �
       Answers q = Replies means space cost X.roles (λ k. (st.views k).memory) answered e.earlier e.before e.after q e.reply
 
       answers : (q : Request) → e.asked ≡ q → Answers q
-      answers q k = subst Answers k (replied means space cost X acc H s runs st a e d)
+      answers q k = subst Answers k (replied means space cost small X acc H s runs st a e d)
 
       there : (b : Bool) → b ≡ true → (Y : Type 0) → cond b (Y × Untouched e.before e.after e.reply) ((e.after ≡ e.before) × (e.reply ≡ replies.NoRole)) → Y
       there true q Y y = y.0

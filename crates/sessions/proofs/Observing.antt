@@ -22,7 +22,7 @@ use Rattle.store.specs.Makers.{wanted}
 use Rattle.run.specs.declared.run.Run.{Run}
 use Rattle.run.specs.Called.{said, Shows}
 use Rattle.run.specs.Plain.{new_plain}
-use Rattle.run.specs.Shown.{Meaning, as_option}
+use Rattle.run.specs.Shown.{Meaning, Small, as_option}
 use Rattle.run.specs.declared.fault.RunFault.{RunFault}
 use Rattle.sessions.specs.declared.reply.Reply.{Reply}
 use Rattle.sessions.specs.declared.reply.Reply.TheVariants as replies
@@ -32,9 +32,12 @@ use Rattle.sessions.specs.Starting.{Begins}
 use Rattle.sessions.specs.Happening.{Did}
 use Rattle.sessions.specs.Observed.{Step, calls, taken as is_taken, taken_by, numbers_in, values_at, values_in, value_said, line_said, said_in}
 use Rattle.sessions.specs.Plays.{Playing, plays_of, play, no_run}
-use Rattle.sessions.specs.Replying.{Replies, reply_of, Took, Told as SaidSo, Untouched}
-use Rattle.sessions.specs.Requests.{handle_in, handle_of, handles_of, of_maker, event_of}
-use Rattle.sessions.specs.Standing.{Stands}
+use Rattle.sessions.specs.Replies.{reply_of, Does}
+use Rattle.sessions.proofs.Events.{Replies, Took, Told as SaidSo, Untouched}
+use Rattle.sessions.specs.Requests.{handle_in, handle_of, handles_of}
+use Rattle.sessions.proofs.Events.{of_maker, event_of}
+use Rattle.sessions.proofs.Standing.{Stands, Moves}
+use Rattle.sessions.proofs.Doing.{does_moves}
 use Rattle.sessions.proofs.Advancing.{Advances, Stays, begin_turns, say_turns, hear_turns}
 use Rattle.sessions.proofs.Places.{Place}
 use Rattle.sessions.proofs.PlainLaw.{plain_law}
@@ -128,7 +131,7 @@ say_value : (m : Meaning) (o : Option Tree) (x : Result ℕ RunFault) (r : Reply
 say_value m o (Ok h) r e q = taken_same e ∙ ap (λ z. as_option (m (handle_in z))) (sym q)
 say_value m o (Err f) r e q = absurd (cc)
 
-module _ {S : Type 0} (means : S → Meaning) (space : S → ℕ) (cost : Tree → ℕ) (X : Specification) (acc : Accepted X) where
+module _ {S : Type 0} (means : S → Meaning) (space : S → ℕ) (cost : Tree → ℕ) (small : (s : S) → Small (means s)) (X : Specification) (acc : Accepted X) where
   -- the event that a step was to the model
   abbrev pub event : Step S → Event
   event e = event_of X.roles (means e.before) e.earlier e.asked
@@ -142,12 +145,12 @@ module _ {S : Type 0} (means : S → Meaning) (space : S → ℕ) (cost : Tree �
     pub tells : (r : ℕ) → Told means X r (taken_by r H) (st.views r)
 
   -- new runs stand as the model's
-  new_stand : (s : S) (runs : List Run) → Begins means X s runs → (k : ℕ) (run : Run) → k < length runs → Shows (means s) (get_or runs k run) ((plays_of (model.new_runs X (space s))).runs k)
+  new_stand : (s : S) (runs : List Run) → Begins X runs → (k : ℕ) (run : Run) → k < length runs → Shows (means s) (get_or runs k run) ((plays_of (model.new_runs X (space s))).runs k)
   new_stand s runs b k run l =
       subst (λ (p : Playing). Shows (means s) (get_or runs k run) (p.runs k)) (plain_law X acc (λ t. 1) (space s) []).state
-      (subst⁻¹ (λ b. Shows (means s) (get_or runs k run) (cond b (new_plain (program X k)) no_run)) (lt-ltb k X.roles (subst (λ n. k < n) b.many l)) (b.fresh k run l))
+      (subst⁻¹ (λ b. Shows (means s) (get_or runs k run) (cond b (new_plain (program X k)) no_run)) (lt-ltb k X.roles (subst (λ n. k < n) b.many l)) (b.fresh (means s) k run l))
 
-  pub at_start : (s : S) (runs : List Run) → Begins means X s runs → At [] s runs (model.new_runs X (space s))
+  pub at_start : (s : S) (runs : List Run) → Begins X runs → At [] s runs (model.new_runs X (space s))
   at_start s runs b = record {
     many = b.many;
     stands = record { space = refl; each = new_stand s runs b };
@@ -160,15 +163,19 @@ module _ {S : Type 0} (means : S → Meaning) (space : S → ℕ) (cost : Tree �
     stands_here : Stands (means e.before) (space e.before) runs (plays_of st)
     stands_here = subst⁻¹ (λ z. Stands (means z) (space z) runs (plays_of st)) d.before a.stands
 
+    moves : Moves means space cost e.before e.after runs e.runs_after (event_of (length runs) (means e.before) e.earlier e.asked)
+        (λ memories answer. Replies means space cost (length runs) memories answer e.earlier e.before e.after e.asked e.reply)
+    moves = does_moves means space cost small e.before e.after runs e.runs_after e.earlier e.reply e.asked (subst (λ l. Does means space cost e.before e.after l e.runs_after e.earlier e.asked e.reply) d.runs_before d.does)
+
     abbrev after : State × Answer
     after = call cost st (event e)
 
     pub same : play cost (plays_of st) (event e) ≡ (plays_of after.0, after.1)
     same = play_same cost st a.shaped (event e) ((decides X cost st a.attend).numbered (event e))
 
-    stands_then : Stands (means e.after) (space e.after) e.runs (plays_of after.0)
-    stands_then = subst (λ (x : Playing × Answer). Stands (means e.after) (space e.after) e.runs x.0) same
-        (subst (λ n. Stands (means e.after) (space e.after) e.runs (play cost (plays_of st) (event_of n (means e.before) e.earlier e.asked)).0) a.many (d.does.stands (plays_of st) stands_here))
+    stands_then : Stands (means e.after) (space e.after) e.runs_after (plays_of after.0)
+    stands_then = subst (λ (x : Playing × Answer). Stands (means e.after) (space e.after) e.runs_after x.0) same
+        (subst (λ n. Stands (means e.after) (space e.after) e.runs_after (play cost (plays_of st) (event_of n (means e.before) e.earlier e.asked)).0) a.many (moves.stands (plays_of st) stands_here))
 
     -- what was replied
     abbrev Answers : Request → Type 0
@@ -178,7 +185,7 @@ module _ {S : Type 0} (means : S → Meaning) (space : S → ℕ) (cost : Tree �
     replied =
         subst (λ (x : Playing × Answer). Replies means space cost X.roles (λ k. (st.views k).memory) x.1 e.earlier e.before e.after e.asked e.reply) same
         (subst (λ n. Replies means space cost n (λ k. (st.views k).memory) (play cost (plays_of st) (event_of n (means e.before) e.earlier e.asked)).1 e.earlier e.before e.after e.asked e.reply) a.many
-        (d.does.replied (plays_of st) stands_here))
+        (moves.replied (plays_of st) stands_here))
 
     -- a call of one role was taken, or no run moved
     record Moved (p : ℕ) : Type 0 where
@@ -355,9 +362,9 @@ module _ {S : Type 0} (means : S → Meaning) (space : S → ℕ) (cost : Tree �
     tells_then (Same h i) k y = outside_runs (Same h i) k refl (λ r. refl)
     tells_then Space k y = outside_runs Space k refl (λ r. refl)
 
-    pub at_next : At (H ++ (e ∷ [])) e.after e.runs after.0
+    pub at_next : At (H ++ (e ∷ [])) e.after e.runs_after after.0
     at_next = record {
-      many = d.does.many ∙ a.many;
+      many = moves.many ∙ a.many;
       stands = stands_then;
       attend = call_attends X cost st (event e) a.attend;
       shaped = call_shaped cost st a.shaped (event e);

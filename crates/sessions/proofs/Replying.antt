@@ -10,7 +10,8 @@ use Rattle.run.specs.Shown.{Meaning}
 use Rattle.sessions.specs.declared.reply.Reply.{Reply}
 use Rattle.sessions.specs.declared.reply.Reply.TheVariants as replies
 use Rattle.sessions.specs.Observed.{taken as is_taken}
-use Rattle.sessions.specs.Replying.{reply_of, Took, Told}
+use Rattle.sessions.specs.Replies.{reply_of}
+use Rattle.sessions.proofs.Events.{Took, Told}
 use Rattle.sessions.specs.RunLaw.{Refused}
 
 -- it is taken, or refused with a number, as the model answers

@@ -29,21 +29,23 @@ use Rattle.sessions.specs.declared.request.Handle.{Handle}
 use Rattle.sessions.specs.declared.request.Request.{Request}
 use Rattle.sessions.specs.declared.request.Request.TheVariants.{Begin, Say, Hear, Register, Atom, Tuple, Crypt, Apply, Shape, Part, Unlock, Same, Space}
 use Rattle.sessions.specs.Starting.{Begins}
-use Rattle.sessions.specs.Happening.{store_after, runs_after, Did, Happened}
+use Rattle.sessions.specs.Happening.{store_at, runs_at, Did, Happened}
 use Rattle.sessions.specs.Observed.{Step, taken as is_taken, taken_by, values_at, values_in, stock}
-use Rattle.sessions.specs.Replying.{Replies, Made, reply_by}
-use Rattle.sessions.specs.Requests.{handle_of, handles_of, of_maker, event_of}
+use Rattle.sessions.specs.Replies.{Made, reply_by}
+use Rattle.sessions.proofs.Events.{Replies}
+use Rattle.sessions.specs.Requests.{handle_of, handles_of}
+use Rattle.sessions.proofs.Events.{of_maker, event_of}
 use Rattle.sessions.specs.RunLaw.{Along, Derived, Holding, Decided, StartsFrom, AsSaid, Unbuilt, to_build, to_start, Suffices, NotRefused, InTurn, AllRead, AllShare, Lawful}
 use Rattle.sessions.proofs.Naming.{given_once}
 use Rattle.sessions.proofs.Observing.{At, event, replied, at_start, at_next}
 use Rattle.sessions.proofs.Obeying.{begins_same, all_names, stock_same, turn_of_duty, begin_of_turn, hear_of_turn, begin_is, say_is, hear_is, decided, is_role}
 
-module _ {S : Type 0} (means : S → Meaning) (space : S → ℕ) (cost : Tree → ℕ) (X : Specification) (acc : Accepted X) where
+module _ {S : Type 0} (means : S → Meaning) (space : S → ℕ) (cost : Tree → ℕ) (small : (s : S) → Small (means s)) (X : Specification) (acc : Accepted X) where
   abbrev Now : List (Step S) → S → List Run → State → Type 0
-  Now H s runs st = At means space cost X acc H s runs st
+  Now H s runs st = At means space cost small X acc H s runs st
 
   abbrev events : List (Step S) → List Event
-  events H = map (event means space cost X acc) H
+  events H = map (event means space cost small X acc) H
 
   -- where all steps lead
   at_end : (es H : List (Step S)) (s : S) (runs : List Run) (st : State) (s' : S) (runs' : List Run) → Now H s runs st → Happened means space cost s runs es s' runs'
@@ -51,8 +53,8 @@ module _ {S : Type 0} (means : S → Meaning) (space : S → ℕ) (cost : Tree �
   at_end [] H s runs st s' runs' a h =
       subst⁻¹ (λ l. Now l s' runs' st) (append-nil H) (subst⁻¹ (λ z. Now H z runs' st) h.0 (subst⁻¹ (λ z. Now H s z st) h.1 a))
   at_end (e ∷ es) H s runs st s' runs' a h =
-      subst (λ l. Now l s' runs' (sessions.after cost (call cost st (event means space cost X acc e)).0 (events es))) (append_assoc H (e ∷ []) es)
-      (at_end es (H ++ (e ∷ [])) e.after e.runs (call cost st (event means space cost X acc e)).0 s' runs' (at_next means space cost X acc H s runs st a e h.0) h.1)
+      subst (λ l. Now l s' runs' (sessions.after cost (call cost st (event means space cost small X acc e)).0 (events es))) (append_assoc H (e ∷ []) es)
+      (at_end es (H ++ (e ∷ [])) e.after e.runs_after (call cost st (event means space cost small X acc e)).0 s' runs' (at_next means space cost small X acc H s runs st a e h.0) h.1)
 
   -- something of each step that follows from where it is made
   module _ (Q : List (Step S) → Step S → Type 0) where
@@ -62,28 +64,28 @@ module _ {S : Type 0} (means : S → Meaning) (space : S → ℕ) (cost : Tree �
     along f [] H s runs st s' runs' a h = tt
     along f (e ∷ es) H s runs st s' runs' a h = (
       f H s runs st a e h.0,
-      along f es (H ++ (e ∷ [])) e.after e.runs (call cost st (event means space cost X acc e)).0 s' runs' (at_next means space cost X acc H s runs st a e h.0) h.1,
+      along f es (H ++ (e ∷ [])) e.after e.runs_after (call cost st (event means space cost small X acc e)).0 s' runs' (at_next means space cost small X acc H s runs st a e h.0) h.1,
     )
 
     module _ (Z : State → Event → Type 0) where
       -- from what was observed to the model
-      along_to : ((H : List (Step S)) (s : S) (runs : List Run) (st : State) → Now H s runs st → (e : Step S) → Did means space cost s runs e → Q H e → Z st (event means space cost X acc e))
+      along_to : ((H : List (Step S)) (s : S) (runs : List Run) (st : State) → Now H s runs st → (e : Step S) → Did means space cost s runs e → Q H e → Z st (event means space cost small X acc e))
           → (es H : List (Step S)) (s : S) (runs : List Run) (st : State) (s' : S) (runs' : List Run) → Now H s runs st → Happened means space cost s runs es s' runs'
           → Along means space cost X Q H es → model.Along cost Z st (events es)
       along_to f [] H s runs st s' runs' a h w = tt
       along_to f (e ∷ es) H s runs st s' runs' a h w = (
         f H s runs st a e h.0 w.0,
-        along_to f es (H ++ (e ∷ [])) e.after e.runs (call cost st (event means space cost X acc e)).0 s' runs' (at_next means space cost X acc H s runs st a e h.0) h.1 w.1,
+        along_to f es (H ++ (e ∷ [])) e.after e.runs_after (call cost st (event means space cost small X acc e)).0 s' runs' (at_next means space cost small X acc H s runs st a e h.0) h.1 w.1,
       )
 
       -- and back
-      along_from : ((H : List (Step S)) (s : S) (runs : List Run) (st : State) → Now H s runs st → (e : Step S) → Did means space cost s runs e → Z st (event means space cost X acc e) → Q H e)
+      along_from : ((H : List (Step S)) (s : S) (runs : List Run) (st : State) → Now H s runs st → (e : Step S) → Did means space cost s runs e → Z st (event means space cost small X acc e) → Q H e)
           → (es H : List (Step S)) (s : S) (runs : List Run) (st : State) (s' : S) (runs' : List Run) → Now H s runs st → Happened means space cost s runs es s' runs'
           → model.Along cost Z st (events es) → Along means space cost X Q H es
       along_from f [] H s runs st s' runs' a h w = tt
       along_from f (e ∷ es) H s runs st s' runs' a h w = (
         f H s runs st a e h.0 w.0,
-        along_from f es (H ++ (e ∷ [])) e.after e.runs (call cost st (event means space cost X acc e)).0 s' runs' (at_next means space cost X acc H s runs st a e h.0) h.1 w.1,
+        along_from f es (H ++ (e ∷ [])) e.after e.runs_after (call cost st (event means space cost small X acc e)).0 s' runs' (at_next means space cost small X acc H s runs st a e h.0) h.1 w.1,
       )
 
   -- what a register's handle names is the value in the memory
@@ -98,15 +100,15 @@ module _ {S : Type 0} (means : S → Meaning) (space : S → ℕ) (cost : Tree �
       inj : {w v : Tree} → some w ≡ some v → w ≡ v
       inj e = cc
 
-  module _ (small : (s : S) → Small (means s)) (H : List (Step S)) (s : S) (runs : List Run) (st : State) (a : Now H s runs st) where
+  module _ (H : List (Step S)) (s : S) (runs : List Run) (st : State) (a : Now H s runs st) where
     pub derived : Derived means space cost X H s runs
     derived = record {
       in_registers = λ A kept r q run v l e.
-          subst (λ z. Deducible A (X.party r) (ValueOf z) v) (stock_same means space cost X acc H s runs st a r)
+          subst (λ z. Deducible A (X.party r) (ValueOf z) v) (stock_same means space cost small X acc H s runs st a r)
           ((a.attend r).stands.values A ((a.attend r).counts A kept).0.acts q v (value_in (means s) (small s) (register (get_or runs r run).registers q) ((st.views r).memory q) ((a.stands.each r run l).memory q) v e));
       in_says = λ A kept r.
           subst (λ z. Every (λ p. Deducible A (X.party r) (ValueOf (stock means X r H)) p.1) z) (a.tells r).said
-          (subst (λ z. Every (λ p. Deducible A (X.party r) (ValueOf z) p.1) (st.views r).said) (stock_same means space cost X acc H s runs st a r) ((a.attend r).says A kept));
+          (subst (λ z. Every (λ p. Deducible A (X.party r) (ValueOf z) p.1) (st.views r).said) (stock_same means space cost small X acc H s runs st a r) ((a.attend r).says A kept));
     }
 
     in_register : (r i : ℕ) (run : Run) (v : Tree) → r < length runs → (st.views r).memory i ≡ some v → means s (register (get_or runs r run).registers i) ≡ Some v
@@ -117,7 +119,7 @@ module _ {S : Type 0} (means : S → Meaning) (space : S → ℕ) (cost : Tree �
       known = λ r t h.
           let v = a.attend r in
           subst (λ l. Has l t) (sym v.knows ∙ (a.tells r).known)
-          (term_known (X.party r) v.role v.sheet (st.views r).memory (st.views r).holdings v.stands t (subst⁻¹ (λ z. TermOf z t) (stock_same means space cost X acc H s runs st a r) h));
+          (term_known (X.party r) v.role v.sheet (st.views r).memory (st.views r).holdings v.stands t (subst⁻¹ (λ z. TermOf z t) (stock_same means space cost small X acc H s runs st a r) h));
       filled = λ r i run t l h.
           let v = a.attend r in
           let e = held_every (λ u k. v.sheet k ≡ some u) v.role.known v.stands.good.entries t i (subst⁻¹ (λ k. Held k t i) (sym v.knows ∙ (a.tells r).known) h) in
@@ -140,7 +142,7 @@ module _ {S : Type 0} (means : S → Meaning) (space : S → ℕ) (cost : Tree �
   -- one step as an event, by its kind
   module _ (H : List (Step S)) (s : S) (runs : List Run) (st : State) (a : Now H s runs st) (e : Step S) (d : Did means space cost s runs e) where
     abbrev ev : Event
-    ev = event means space cost X acc e
+    ev = event means space cost small X acc e
 
     abbrev Answers : Request → Type 0
     Answers q = Replies means space cost X.roles (λ k. (st.views k).memory) (call cost st ev).1 e.earlier e.before e.after q e.reply
@@ -182,14 +184,14 @@ module _ {S : Type 0} (means : S → Meaning) (space : S → ℕ) (cost : Tree �
       by_kind Space k y = outside
 
       pub by_event : Z ev
-      by_event = by_kind e.asked refl (replied means space cost X acc H s runs st a e d)
+      by_event = by_kind e.asked refl (replied means space cost small X acc H s runs st a e d)
 
     start_to : (ρ : ℕ → Tree) → StartsFrom means space cost X ρ H e → model.StartsFrom X ρ st ev
     start_to ρ w = by_event (model.StartsFrom X ρ st) tt (λ v t m. tt) begun (λ p k l. tt) (λ p h k l. tt)
       where
         begun : (p : ℕ) (hs : Vec Handle Global) (ns : Vec ℕ Global) → e.asked ≡ Begin p hs ns → p < X.roles → model.StartsFrom X ρ st (begin p (values_in means e) (vec_items ns))
         begun p hs ns k l t =
-            let z = w p hs ns k (begin_of_turn means space cost X acc H s runs st a p t) in
+            let z = w p hs ns k (begin_of_turn means space cost small X acc H s runs st a p t) in
             (z.0 ∙ ap (map (λ t. some (reading_of ρ t))) (sym (given_once (X.party p) (X.knows p))), z.1 ∙ ap (map ρ) (sym (all_names X acc p)))
 
     arrive_to : AsSaid means space cost X H e → model.AsSaid st ev
@@ -197,7 +199,7 @@ module _ {S : Type 0} (means : S → Meaning) (space : S → ℕ) (cost : Tree �
       where
         heard : (p : ℕ) (h : Handle) → e.asked ≡ Hear p h → p < X.roles → model.AsSaid st (hear p (as_option (means e.before (handle_of e.earlier h))))
         heard p h k i l t =
-            let z = w p l h k (hear_of_turn means space cost X acc H s runs st a p l t) in
+            let z = w p l h k (hear_of_turn means space cost small X acc H s runs st a p l t) in
             (z.0, ap as_option z.1, z.2, subst⁻¹ (SomeOf (λ p. (p.0 ≡ l) × (p.1 ≡ z.0))) (a.tells z.2).said z.3)
 
     free_is : st.space ≡ space e.before
@@ -264,14 +266,14 @@ module _ {S : Type 0} (means : S → Meaning) (space : S → ℕ) (cost : Tree �
       where
         go : (q : Request) → e.asked ≡ q → InTurn means space cost X H q → T (is_taken e.reply)
         go (Begin p hs ns) k i =
-            let z = begin_is means space cost X acc H s runs st a e d p hs ns k (is_role X p (taken_by p H) (to_do (X.knows p)) i) in
-            z.1.takes.0 (subst⁻¹ (λ x. model.Taken (call cost st x).1) z.0 (subst (model.NotRefused cost st) z.0 w (turn_of_duty means space cost X acc H s runs st a p (to_do (X.knows p)) i)))
+            let z = begin_is means space cost small X acc H s runs st a e d p hs ns k (is_role X p (taken_by p H) (to_do (X.knows p)) i) in
+            z.1.takes.0 (subst⁻¹ (λ x. model.Taken (call cost st x).1) z.0 (subst (model.NotRefused cost st) z.0 w (turn_of_duty means space cost small X acc H s runs st a p (to_do (X.knows p)) i)))
         go (Say p) k (l, mk, i) =
-            let z = say_is means space cost X acc H s runs st a e d p k (is_role X p (taken_by p H) (speak l mk) i) in
-            z.1.takes.0 (subst⁻¹ (λ x. model.Taken (call cost st x).1) z.0 (subst (model.NotRefused cost st) z.0 w l (turn_of_duty means space cost X acc H s runs st a p (speak l mk) i)))
+            let z = say_is means space cost small X acc H s runs st a e d p k (is_role X p (taken_by p H) (speak l mk) i) in
+            z.1.takes.0 (subst⁻¹ (λ x. model.Taken (call cost st x).1) z.0 (subst (model.NotRefused cost st) z.0 w l (turn_of_duty means space cost small X acc H s runs st a p (speak l mk) i)))
         go (Hear p h) k (l, i) =
-            let z = hear_is means space cost X acc H s runs st a e d p h k (is_role X p (taken_by p H) (listen l) i) in
-            z.1.takes.0 (subst⁻¹ (λ x. model.Taken (call cost st x).1) z.0 (subst (model.NotRefused cost st) z.0 w l (turn_of_duty means space cost X acc H s runs st a p (listen l) i)))
+            let z = hear_is means space cost small X acc H s runs st a e d p h k (is_role X p (taken_by p H) (listen l) i) in
+            z.1.takes.0 (subst⁻¹ (λ x. model.Taken (call cost st x).1) z.0 (subst (model.NotRefused cost st) z.0 w l (turn_of_duty means space cost small X acc H s runs st a p (listen l) i)))
         go (Register r n) k i = absurd i
         go (Atom n) k i = absurd i
         go (Tuple parts) k i = absurd i
@@ -292,41 +294,41 @@ module _ {S : Type 0} (means : S → Meaning) (space : S → ℕ) (cost : Tree �
   suffices_to R [] H s runs st s' runs' a h w = tt
   suffices_to R (e ∷ es) H s runs st s' runs' a h w =
       suffices_first H s runs st a e h.0 R ev' (events es)
-      (subst⁻¹ (λ b. cond b ((model.costs X cost R X.roles ≤ st.space) × model.Along cost (model.Unbuilt cost) (call cost st (event means space cost X acc e)).0 (events es))
-      (model.Suffices X cost R (call cost st (event means space cost X acc e)).0 (events es))) (starts_kind H s runs st a e h.0 e.asked)
+      (subst⁻¹ (λ b. cond b ((model.costs X cost R X.roles ≤ st.space) × model.Along cost (model.Unbuilt cost) (call cost st (event means space cost small X acc e)).0 (events es))
+      (model.Suffices X cost R (call cost st (event means space cost small X acc e)).0 (events es))) (starts_kind H s runs st a e h.0 e.asked)
       (go (to_start means space cost X H e.asked) w
-      (λ u. suffices_to R es (H ++ (e ∷ [])) e.after e.runs (call cost st (event means space cost X acc e)).0 s' runs' (at_next means space cost X acc H s runs st a e h.0) h.1 u)))
+      (λ u. suffices_to R es (H ++ (e ∷ [])) e.after e.runs_after (call cost st (event means space cost small X acc e)).0 s' runs' (at_next means space cost small X acc H s runs st a e h.0) h.1 u)))
     where
       ev' : Event
-      ev' = event means space cost X acc e
+      ev' = event means space cost small X acc e
 
-      then : Now (H ++ (e ∷ [])) e.after e.runs (call cost st (event means space cost X acc e)).0
-      then = at_next means space cost X acc H s runs st a e h.0
+      then : Now (H ++ (e ∷ [])) e.after e.runs_after (call cost st (event means space cost small X acc e)).0
+      then = at_next means space cost small X acc H s runs st a e h.0
 
-      rest : Happened means space cost e.after e.runs es s' runs'
+      rest : Happened means space cost e.after e.runs_after es s' runs'
       rest = h.1
 
       go : (b : Bool) → cond b ((model.costs X cost R X.roles ≤ space e.before) × Every (Unbuilt means space cost X) es) (Suffices means space cost X R (H ++ (e ∷ [])) es)
-          → (Suffices means space cost X R (H ++ (e ∷ [])) es → model.Suffices X cost R (call cost st (event means space cost X acc e)).0 (events es))
-          → cond b ((model.costs X cost R X.roles ≤ st.space) × model.Along cost (model.Unbuilt cost) (call cost st (event means space cost X acc e)).0 (events es))
-          (model.Suffices X cost R (call cost st (event means space cost X acc e)).0 (events es))
+          → (Suffices means space cost X R (H ++ (e ∷ [])) es → model.Suffices X cost R (call cost st (event means space cost small X acc e)).0 (events es))
+          → cond b ((model.costs X cost R X.roles ≤ st.space) × model.Along cost (model.Unbuilt cost) (call cost st (event means space cost small X acc e)).0 (events es))
+          (model.Suffices X cost R (call cost st (event means space cost small X acc e)).0 (events es))
       go true w k = (
         subst⁻¹ (λ n. model.costs X cost R X.roles ≤ n) (free_is H s runs st a e h.0) w.0,
-        along_to (λ B e. Unbuilt means space cost X e) (model.Unbuilt cost) (λ H s runs st a e d u. unbuilt_to H s runs st a e d u) es (H ++ (e ∷ [])) e.after e.runs (call cost st (event means space cost X acc e)).0 s' runs' then rest
+        along_to (λ B e. Unbuilt means space cost X e) (model.Unbuilt cost) (λ H s runs st a e d u. unbuilt_to H s runs st a e d u) es (H ++ (e ∷ [])) e.after e.runs_after (call cost st (event means space cost small X acc e)).0 s' runs' then rest
             (unbuilt_along es (H ++ (e ∷ [])) w.1),
       )
       go false w k = k w
 
   -- the law, where steps from new runs have led
-  module _ (small : (s : S) → Small (means s)) (first : S) (new : List Run) (b : Begins means X first new) where
+  module _ (first : S) (new : List Run) (b : Begins X new) where
     begun : Now [] first new (sessions.new_runs X (space first))
-    begun = at_start means space cost X acc first new b
+    begun = at_start means space cost small X acc first new b
 
     pub lawful_end : (H : List (Step S)) (s : S) (runs : List Run) → Happened means space cost first new H s runs → Lawful means space cost X H s runs
     lawful_end H s runs h = record {
-      derived = derived small H s runs st end;
-      holding = holding small H s runs st end;
-      decided = along (Decided means space cost X) (λ H s runs st a e d. decided means space cost X acc H s runs st a e d) H [] first new (sessions.new_runs X (space first)) s runs begun h;
+      derived = derived H s runs st end;
+      holding = holding H s runs st end;
+      decided = along (Decided means space cost X) (λ H s runs st a e d. decided means space cost small X acc H s runs st a e d) H [] first new (sessions.new_runs X (space first)) s runs begun h;
       chosen = λ ρ f.
           let fair : model.Fair X cost ρ (sessions.new_runs X (space first)) (events H) = record {
             start = along_to (StartsFrom means space cost X ρ) (model.StartsFrom X ρ) (λ H s runs st a e d w. start_to H s runs st a e d ρ w) H [] first new (sessions.new_runs X (space first)) s runs begun h f.start;
@@ -335,8 +337,8 @@ module _ {S : Type 0} (means : S → Meaning) (space : S → ℕ) (cost : Tree �
           } in
           let z = (session_law X acc cost (space first) (events H)).chosen ρ fair in (
             along_from (NotRefused means space cost X) (model.NotRefused cost) (λ H s runs st a e d w. not_refused_from H s runs st a e d w) H [] first new (sessions.new_runs X (space first)) s runs begun h z.0,
-            all_read small H s runs st end (reading_of ρ) z.1,
-            all_share small H s runs st end z.2,
+            all_read H s runs st end (reading_of ρ) z.1,
+            all_share H s runs st end z.2,
           );
     }
       where
@@ -348,20 +350,20 @@ module _ {S : Type 0} (means : S → Meaning) (space : S → ℕ) (cost : Tree �
 
   -- steps up to a point, and steps after others
   pub happened_part : (es rest : List (Step S)) (s : S) (runs : List Run) (s' : S) (runs' : List Run) → Happened means space cost s runs (es ++ rest) s' runs'
-      → Happened means space cost s runs es (store_after s es) (runs_after runs es)
+      → Happened means space cost s runs es (store_at s es) (runs_at runs es)
   happened_part [] rest s runs s' runs' h = (refl, refl)
-  happened_part (e ∷ es) rest s runs s' runs' h = (h.0, happened_part es rest e.after e.runs s' runs' h.1)
+  happened_part (e ∷ es) rest s runs s' runs' h = (h.0, happened_part es rest e.after e.runs_after s' runs' h.1)
 
   pub happened_join : (es rest : List (Step S)) (s : S) (runs : List Run) (t : S) (ts : List Run) (s' : S) (runs' : List Run) → Happened means space cost s runs es t ts
       → Happened means space cost t ts rest s' runs' → Happened means space cost s runs (es ++ rest) s' runs'
   happened_join [] rest s runs t ts s' runs' h k = subst (λ z. Happened means space cost z runs rest s' runs') h.0 (subst (λ z. Happened means space cost t z rest s' runs') h.1 k)
-  happened_join (e ∷ es) rest s runs t ts s' runs' h k = (h.0, happened_join es rest e.after e.runs t ts s' runs' h.1 k)
+  happened_join (e ∷ es) rest s runs t ts s' runs' h k = (h.0, happened_join es rest e.after e.runs_after t ts s' runs' h.1 k)
 
   -- at every point of steps that went on from others
-  pub lawful_points : (small : (s : S) → Small (means s)) (first : S) (new : List Run) → Begins means X first new → (past : List (Step S)) (old : S) (runs : List Run)
+  pub lawful_points : (first : S) (new : List Run) → Begins X new → (past : List (Step S)) (old : S) (runs : List Run)
       → Happened means space cost first new past old runs → (H : List (Step S)) (s : S) (runs' : List Run) → Happened means space cost old runs H s runs'
-      → (es rest : List (Step S)) → H ≡ es ++ rest → Lawful means space cost X (past ++ es) (store_after old es) (runs_after runs es)
-  lawful_points small first new b past old runs k H s runs' h es rest e =
-      lawful_end small first new b (past ++ es) (store_after old es) (runs_after runs es)
-      (happened_join past es first new old runs (store_after old es) (runs_after runs es) k
+      → (es rest : List (Step S)) → H ≡ es ++ rest → Lawful means space cost X (past ++ es) (store_at old es) (runs_at runs es)
+  lawful_points first new b past old runs k H s runs' h es rest e =
+      lawful_end first new b (past ++ es) (store_at old es) (runs_at runs es)
+      (happened_join past es first new old runs (store_at old es) (runs_at runs es) k
       (happened_part es rest old runs s runs' (subst (λ l. Happened means space cost old runs l s runs') e h)))

@@ -1,21 +1,21 @@
 -- Requests that were performed one after the other on runs over a store.
-use Rattle.std.specs.Prelude.{◌≡◌, ℕ, List, [], ◌∷◌, ◌++◌, Ok}
+use Rattle.std.specs.Prelude.{◌≡◌, ℕ, List, [], ◌∷◌, ◌++◌}
 use Rattle.model.specs.Trees.{Tree}
 use Rattle.run.specs.declared.run.Run.{Run}
 use Rattle.run.specs.Shown.{Meaning}
 use Rattle.sessions.specs.declared.reply.Reply.{Reply}
-use Rattle.sessions.specs.Moving.{Does}
+use Rattle.sessions.specs.Replies.{Does}
 use Rattle.sessions.specs.Observed.{Step}
 
 -- where some steps have led
 module _ {S : Type 0} where
-  abbrev pub store_after : S → List (Step S) → S
-  store_after s [] = s
-  store_after s (e ∷ es) = store_after e.after es
+  abbrev pub store_at : S → List (Step S) → S
+  store_at s [] = s
+  store_at s (e ∷ es) = store_at e.after es
 
-  abbrev pub runs_after : List Run → List (Step S) → List Run
-  runs_after runs [] = runs
-  runs_after runs (e ∷ es) = runs_after e.runs es
+  abbrev pub runs_at : List Run → List (Step S) → List Run
+  runs_at runs [] = runs
+  runs_at runs (e ∷ es) = runs_at e.runs_after es
 
   -- the handles of each were named by the replies to those before it, and to some earlier ones
   abbrev pub Named : List Reply → List (Step S) → Type 0
@@ -26,9 +26,10 @@ module _ {S : Type 0} (means : S → Meaning) (space : S → ℕ) (cost : Tree �
   -- one step, from where those before it have led: it did what the contract of one call says
   pub record Did (s : S) (runs : List Run) (e : Step S) : Type 0 where
     pub before : e.before ≡ s
-    pub does : Does means space cost e.before e.after runs e.runs e.earlier e.asked (Ok e.reply)
+    pub runs_before : e.runs_before ≡ runs
+    pub does : Does means space cost e.before e.after e.runs_before e.runs_after e.earlier e.asked e.reply
 
   -- steps in order, to a store and runs
   abbrev pub Happened : S → List Run → List (Step S) → S → List Run → Type 0
   Happened s runs [] s' runs' = (s' ≡ s) × (runs' ≡ runs)
-  Happened s runs (e ∷ es) s' runs' = Did s runs e × Happened e.after e.runs es s' runs'
+  Happened s runs (e ∷ es) s' runs' = Did s runs e × Happened e.after e.runs_after es s' runs'

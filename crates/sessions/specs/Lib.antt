@@ -1,11 +1,8 @@
 pub mod Plays
 pub mod PlainLaw
 pub mod Requests
-pub mod Replying
+pub mod Replies
 pub mod Performing
-pub mod Standing
-pub mod Asking
-pub mod Moving
 pub mod Starting
 pub mod Observed
 pub mod RunLaw

@@ -14,14 +14,15 @@ use Rattle.sessions.specs.declared.request.Request.{Request}
 use Rattle.sessions.specs.declared.request.Request.TheVariants.{Begin, Say, Hear, Register, Atom, Tuple, Crypt, Apply, Shape, Part, Unlock, Same, Space}
 use Rattle.sessions.specs.Requests.{handle_in, handle_of, handles_of, values_of}
 
--- One request that was performed: the replies to those before it, what was asked and replied, the store before and after, the runs after.
+-- One request that was performed: the replies to those before it, what was asked and replied, the store and the runs before and after.
 pub record Step (S : Type 0) : Type 0 where
   pub earlier : List Reply
   pub asked : Request
   pub reply : Reply
   pub before : S
   pub after : S
-  pub runs : List Run
+  pub runs_before : List Run
+  pub runs_after : List Run
 
 -- is it a call of this role?
 abbrev pub calls : ℕ → Request → Bool

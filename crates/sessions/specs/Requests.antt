@@ -1,5 +1,5 @@
--- A request as the model's event: with the values behind its handles, in the store as it is then.
-use Rattle.std.specs.Prelude.{ℕ, cond, List, [], ◌∷◌, map, Ok, Err, Result, slice_index_or, nat_lt, vec_items}
+-- The handles that a request names, by the replies to those before it.
+use Rattle.std.specs.Prelude.{ℕ, cond, List, [], ◌∷◌, length, map, Ok, Err, Result, slice_index_or, nat_lt, vec_items}
 use Rattle.std.proofs.Math.Option.{Option}
 use Rattle.model.specs.Trees.{tupled, crypted, applied, Tree, leaf}
 use Rattle.model.specs.Sessions.{Event, begin, say, hear, build, other}
@@ -41,27 +41,18 @@ handles_of rs hs = map (handle_of rs) hs
 abbrev pub values_of : Meaning → List ℕ → List (Option Tree)
 values_of m hs = map (λ h. as_option (m h)) hs
 
--- a call of a role that is not there is nothing to the model
-abbrev pub of_role : ℕ → ℕ → Event → Event
-of_role roles r e = cond (nat_lt r roles) e other
-
--- nor is what a store refuses for another reason than space
-abbrev pub of_maker : Result Tree StoreFault → Event
-of_maker (Ok v) = build v
-of_maker (Err f) = other
-
-module _ (roles : ℕ) (m : Meaning) (rs : List Reply) where
-  abbrev pub event_of : Request → Event
-  event_of (Begin r given numbers) = of_role roles r (begin r (values_of m (handles_of rs (vec_items given))) (vec_items numbers))
-  event_of (Say r) = of_role roles r (say r)
-  event_of (Hear r h) = of_role roles r (hear r (as_option (m (handle_of rs h))))
-  event_of (Register r n) = other
-  event_of (Atom n) = build (leaf n)
-  event_of (Tuple parts) = of_maker (wanted m tupled (handles_of rs (vec_items parts)))
-  event_of (Crypt text key) = of_maker (wanted m crypted (handle_of rs text ∷ handle_of rs key ∷ []))
-  event_of (Apply f parts) = of_maker (wanted m (applied f) (handles_of rs (vec_items parts)))
-  event_of (Shape h) = other
-  event_of (Part h i) = other
-  event_of (Unlock h k) = other
-  event_of (Same h k) = other
-  event_of Space = other
+-- how many handles a request names in a list
+abbrev pub width : Request → ℕ
+width (Begin r given numbers) = length (vec_items given)
+width (Say r) = 0
+width (Hear r h) = 0
+width (Register r n) = 0
+width (Atom n) = 0
+width (Tuple parts) = length (vec_items parts)
+width (Crypt text key) = 0
+width (Apply f parts) = length (vec_items parts)
+width (Shape h) = 0
+width (Part h i) = 0
+width (Unlock h k) = 0
+width (Same h k) = 0
+width Space = 0

@@ -1,19 +1,11 @@
 // Calls of the runs of a session.
-ghost use Rattle.std.specs.Prelude.{◌≡◌, cond, length, nat_lt};
-ghost use Rattle.model.specs.Sessions.{begin as to_begin, say as to_say, hear as to_hear};
-ghost use Rattle.run.specs.Shown.{as_option};
+ghost use Rattle.std.specs.Prelude.{◌≡◌};
 ghost use Rattle.sessions.specs.declared.reply.Reply.TheVariants as replies;
-ghost use Rattle.sessions.specs.Asking.{Looks, reply_for};
-ghost use Rattle.sessions.specs.Replying.{reply_of, Took, Told, Untouched};
-ghost use Rattle.sessions.specs.Requests.{handle_of, handles_of, values_of, of_role};
-ghost use Rattle.sessions.specs.Standing.{Moves};
+ghost use Rattle.sessions.specs.Replies.{reply_of, Looks, BeginsAt, SaysAt, HearsAt};
 
-use crate::past::Past;
 use crate::reply::Reply;
-use crate::request::Handle;
 use run::fault::RunFault;
 use run::run::Run;
-use std::alloc::AllocError;
 use store::store::Store;
 
 pub(crate) fn begin<S: Store>(
@@ -23,7 +15,7 @@ pub(crate) fn begin<S: Store>(
     given: &[u32],
     numbers: &[u32],
 ) -> Reply
-    ensures { Moves S.means S.space S.cost store.old store.new runs.old runs.new (of_role (length runs.old) role (to_begin role (values_of (S.means store.old) given.now) numbers.now)) (λ _ answer. cond (nat_lt role (length runs.old)) (Took answer result × Untouched store.old store.new result) ((store.new ≡ store.old) × (result ≡ replies.NoRole))) }
+    ensures { BeginsAt S.means S.space S.cost store.old store.new runs.old runs.new role given.now numbers.now result }
 {
     if role >= runs.len() {
         return Reply::NoRole;
@@ -32,7 +24,7 @@ pub(crate) fn begin<S: Store>(
 }
 
 pub(crate) fn say<S: Store>(store: &mut S, runs: &mut [Run<'_>], role: usize) -> Reply
-    ensures { Moves S.means S.space S.cost store.old store.new runs.old runs.new (of_role (length runs.old) role (to_say role)) (λ _ answer. cond (nat_lt role (length runs.old)) (Told (S.means store.new) answer result × Untouched store.old store.new result) ((store.new ≡ store.old) × (result ≡ replies.NoRole))) }
+    ensures { SaysAt S.means S.space S.cost store.old store.new runs.old runs.new role result }
 {
     if role >= runs.len() {
         return Reply::NoRole;
@@ -41,7 +33,7 @@ pub(crate) fn say<S: Store>(store: &mut S, runs: &mut [Run<'_>], role: usize) ->
 }
 
 pub(crate) fn hear<S: Store>(store: &mut S, runs: &mut [Run<'_>], role: usize, handle: u32) -> Reply
-    ensures { Moves S.means S.space S.cost store.old store.new runs.old runs.new (of_role (length runs.old) role (to_hear role (as_option (S.means store.old handle)))) (λ _ answer. cond (nat_lt role (length runs.old)) (Took answer result × Untouched store.old store.new result) ((store.new ≡ store.old) × (result ≡ replies.NoRole))) }
+    ensures { HearsAt S.means S.space S.cost store.old store.new runs.old runs.new role handle result }
 {
     if role >= runs.len() {
         return Reply::NoRole;

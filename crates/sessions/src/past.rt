@@ -1,17 +1,15 @@
 // The replies so far, which tell the handles that requests name.
-ghost use Rattle.std.specs.Prelude.{◌≡◌, IfOk};
+ghost use Rattle.std.specs.Prelude.{◌≡◌, ◌≤◌, length, vec_capacity};
 ghost use Rattle.sessions.specs.Requests.{handle_of, handles_of};
 
 use crate::reply::Reply;
 use crate::request::Handle;
-use std::alloc::{AllocError, Global};
 
 // no store has a value for this handle
 const NO_HANDLE: u32 = 4294967295;
 
 #[derive(Clone, Copy)]
 pub(crate) struct Past<'a> {
-    pub(crate) heap: Global,
     pub(crate) replies: &'a [Reply],
 }
 
@@ -28,12 +26,15 @@ impl<'a> Past<'a> {
         }
     }
 
-    pub(crate) fn handles(self, handles: &[Handle]) -> Result<Vec<u32>, AllocError>
-        ensures { IfOk result (λ v. v.items ≡ handles_of self.entry.replies.now handles.now) }
+    // The room takes the handles, and nothing else.
+    pub(crate) fn handles(self, handles: &[Handle], room: &mut Vec<u32>)
+        requires { length handles.now ≤ vec_capacity room.old }
+        ensures items { room.new.items ≡ handles_of self.entry.replies.now handles.now }
+        ensures capacity { vec_capacity room.new ≡ vec_capacity room.old }
     {
-        handles
-            .iter()
-            .map(|handle| self.handle(*handle))
-            .collect(self.heap)
+        room.clear();
+        for handle in handles {
+            room.push_reserved(self.handle(*handle));
+        }
     }
 }

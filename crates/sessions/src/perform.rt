@@ -1,5 +1,8 @@
 // The public calls: a session of a text's roles over a store, and requests on runs that are lent.
+ghost use Rattle.std.specs.Prelude.{◌≡◌, ◌<◌, ◌≤◌, ℕ, length, slice_index_or};
+ghost use Rattle.sessions.specs.declared.request.Request.{Request as Asked};
 ghost use Rattle.sessions.specs.Performing.{Performs, PerformsOn};
+ghost use Rattle.sessions.specs.Requests.{width};
 
 use crate::fault::SessionFault;
 use crate::one::one;
@@ -7,14 +10,15 @@ use crate::past::Past;
 use crate::reply::Reply;
 use crate::request::Request;
 use crate::runs::{counts_of, runs_of};
+use program::take_up::ProgramFault;
 use roles::translate::translate;
 use run::run::Run;
 use std::alloc::{AllocError, Global};
 use store::store::Store;
 use terms::limits::Limits;
 
-// The text is translated, each of its roles gets a new run over the store, and the requests are performed one by one. There is one reply
-// for each request.
+/// The text is translated, each of its roles gets a new run over the store, and the requests are performed one by one. There is one
+/// reply for each request. Where the text is refused or memory lacks, nothing is performed and the store is as it was.
 pub fn perform<S: Store>(
     heap: Global,
     store: &mut S,
@@ -26,11 +30,16 @@ pub fn perform<S: Store>(
 {
     let translation = translate(heap, text, limits)?;
     let counts = counts_of(heap, translation.declarations.functions.as_slice())?;
-    let mut runs = runs_of(heap, translation.roles.as_slice(), counts.as_slice())?;
+    let mut runs = match runs_of(heap, &translation, counts.as_slice()) {
+        Ok(runs) => runs,
+        Err(ProgramFault::NoMemory) => return Err(SessionFault::NoMemory),
+        Err(ProgramFault::Unsound) => unreachable!(),
+    };
     Ok(perform_on(heap, store, runs.as_mut_slice(), requests)?)
 }
 
-// The requests are performed one by one, on runs that are there. Roles are told by the places of their runs.
+/// The requests are performed one by one, on runs that are there. Roles are told by the places of their runs. All memory is taken
+/// before the first request: where it lacks, nothing is performed, and the store and the runs are as they were.
 pub fn perform_on<S: Store>(
     heap: Global,
     store: &mut S,
@@ -39,14 +48,25 @@ pub fn perform_on<S: Store>(
 ) -> Result<Vec<Reply>, AllocError>
     ensures { PerformsOn S.means S.space S.cost store.old store.new runs.old runs.new requests.now result }
 {
+    let mut room = Vec::with_capacity(heap, widest(requests))?;
     let mut replies = Vec::with_capacity(heap, requests.len())?;
     for request in requests {
         let past = Past {
-            heap,
             replies: replies.as_slice(),
         };
-        let reply = one(store, runs, past, request)?;
-        replies.push(reply)?;
+        let reply = one(store, runs, past, request, &mut room);
+        replies.push_reserved(reply);
     }
     Ok(replies)
+}
+
+// The most handles that one of the requests names in a list.
+fn widest(requests: &[Request]) -> usize
+    ensures { (k : ℕ) → (q : Asked) → k < length requests.now → width (slice_index_or requests.now k q) ≤ result }
+{
+    let mut most = 0;
+    for request in requests {
+        most = most.max(request.width());
+    }
+    most
 }

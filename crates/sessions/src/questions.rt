@@ -1,7 +1,7 @@
 // Questions to a store, and what it makes.
 ghost use Rattle.std.specs.Prelude.{◌≡◌};
 ghost use Rattle.sessions.specs.declared.reply.Reply.TheVariants as replies;
-ghost use Rattle.sessions.specs.Replying.{reply_by};
+ghost use Rattle.sessions.specs.Replies.{reply_by};
 
 use crate::reply::Reply;
 use store::fault::StoreFault;

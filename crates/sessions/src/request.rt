@@ -1,4 +1,7 @@
 // What can be asked of a session: its runs, and the store that they share.
+ghost use Rattle.std.specs.Prelude.{◌≡◌};
+ghost use Rattle.sessions.specs.Requests.{width};
+
 
 // A handle: by its number, or the one that an earlier request of the list answered. One that is not there is never valid.
 #[derive(Clone, Copy)]
@@ -53,4 +56,17 @@ pub enum Request {
         right: Handle,
     },
     Space,
+}
+
+impl Request {
+    // How many handles it names in a list.
+    pub(crate) fn width(&self) -> usize
+        ensures { result ≡ width self.now }
+    {
+        match self {
+            Request::Begin { given, .. } => given.len(),
+            Request::Tuple(parts) | Request::Apply { parts, .. } => parts.len(),
+            _ => 0,
+        }
+    }
 }

@@ -1,24 +1,19 @@
 // New runs of a translation's roles.
-ghost use Rattle.std.specs.Prelude.{◌≡◌, true, map, IfOk};
-ghost use Rattle.model.specs.Lists.{Every};
-ghost use Rattle.program.specs.Held.{passes};
-ghost use Rattle.roles.specs.declared.role.Role.{Role as TheRole};
-ghost use Rattle.run.specs.Called.{Shows};
-ghost use Rattle.run.specs.Filling.{lined};
-ghost use Rattle.run.specs.Plain.{new_plain};
-ghost use Rattle.run.specs.Shown.{Meaning};
-ghost use Rattle.sessions.specs.Starting.{short_count, NewRuns};
+ghost use Rattle.std.specs.Prelude.{◌≡◌, map, IfOk};
+ghost use Rattle.sessions.specs.Starting.{short_count, RunOf, RunsOf, AllNew};
 
 use program::action::Row;
 use program::held::Program;
 use program::take_up::ProgramFault;
 use roles::role::Role;
+use roles::translation::Translation;
 use run::run::Run;
 use std::alloc::{AllocError, Global};
 use terms::declarations::Function;
 
-// How many parts each function takes: no text declares one with more than eight.
-pub(crate) fn counts_of(heap: Global, functions: &[Function]) -> Result<Vec<u8>, AllocError>
+/// How many parts each function takes, by its number: what runs of a text's roles are held by. No text declares a function with more
+/// than eight.
+pub fn counts_of(heap: Global, functions: &[Function]) -> Result<Vec<u8>, AllocError>
     ensures { IfOk result (λ v. v.items ≡ map short_count functions.now) }
 {
     functions
@@ -27,30 +22,36 @@ pub(crate) fn counts_of(heap: Global, functions: &[Function]) -> Result<Vec<u8>,
         .collect(heap)
 }
 
-// A run of rows that can be held.
-fn run_of<'a>(heap: Global, rows: &'a [Row], counts: &'a [u8]) -> Result<Run<'a>, AllocError>
-    requires { passes counts.now rows.now ≡ true }
-    ensures { IfOk result (λ run. (m : Meaning) → Shows m run (new_plain (map lined rows.now))) }
+/// A run for each role of a translation, before its begin. The counts are those of the translation's functions; with others a
+/// program may be refused as unsound.
+pub fn runs_of<'a>(
+    heap: Global,
+    translation: &'a Translation,
+    counts: &'a [u8],
+) -> Result<Vec<Run<'a>>, ProgramFault>
+    ensures { RunsOf translation.now counts.now result }
 {
-    match Program::from_rows(heap, rows, counts) {
-        Ok(program) => Run::new(heap, program),
-        Err(ProgramFault::NoMemory(_)) => Err(AllocError),
-        Err(ProgramFault::Unsound) => unreachable!(),
-    }
+    all_new(heap, translation.roles.as_slice(), counts)
 }
 
-// A run for each role.
-pub(crate) fn runs_of<'a>(
+fn all_new<'a>(
     heap: Global,
     roles: &'a [Role],
     counts: &'a [u8],
-) -> Result<Vec<Run<'a>>, AllocError>
-    requires { Every (λ (role : TheRole). passes counts.now role.rows.items ≡ true) roles.now }
-    ensures { IfOk result (λ runs. NewRuns roles.now runs.items) }
+) -> Result<Vec<Run<'a>>, ProgramFault>
+    ensures { AllNew counts.now roles.now result }
 {
     let mut runs = Vec::with_capacity(heap, roles.len())?;
     for role in roles {
-        runs.push(run_of(heap, role.rows.as_slice(), counts)?)?;
+        runs.push_reserved(run_of(heap, role.rows.as_slice(), counts)?);
     }
     Ok(runs)
+}
+
+// A run of rows, if they can be held.
+fn run_of<'a>(heap: Global, rows: &'a [Row], counts: &'a [u8]) -> Result<Run<'a>, ProgramFault>
+    ensures { RunOf counts.now rows.now result }
+{
+    let program = Program::from_rows(heap, rows, counts)?;
+    Ok(Run::new(heap, program)?)
 }

@@ -1,30 +1,17 @@
-use Rattle.std.proofs.Common.{Ok, ap}
+use Rattle.std.proofs.Common.{ℕ, List, ap, subst, ◌∙◌}
 use mathlib.Core.Path.{subst⁻¹}
-use Rattle.model.specs.Trees.{tupled, applied}
-use Rattle.sessions.specs.Moving.{Does}
+use Rattle.sessions.specs.Replies.{BeginsAt, HearsAt, Does}
 use Rattle.sessions.specs.Requests.{handles_of}
-use Rattle.sessions.proofs.Doing.{does_look, does_make}
 use Rattle.sessions.proofs.one.one.Goals as goal
 
-pub returns-in-Register : goal.returns-in-Register
-returns-in-Register g c =
-    let s = c.args.store.now in
-    let rs = c.args.past.replies.now in
-    subst⁻¹ (λ q. Does g.S.Store.means g.S.Store.space g.S.Store.cost s s c.args.runs.now c.args.runs.now rs q (Ok c.look.result)) c.in-Register.is
-    (does_look g.S.Store.means g.S.Store.space g.S.Store.cost s (g.met.S.Store.each_fits s) c.args.runs.now rs c.in-Register.role c.in-Register.number c.look.result c.look.ensures)
+pub returns-in-Begin-clause-does : goal.returns-in-Begin-clause-does
+returns-in-Begin-clause-does g c =
+    let D = λ (hs ns : List ℕ). BeginsAt g.S.Store.means g.S.Store.space g.S.Store.cost c.args.store.now c.begin.new.store c.args.runs.now c.begin.new.runs c.in-Begin.role hs ns c.begin.result in
+    subst⁻¹ (λ q. Does g.S.Store.means g.S.Store.space g.S.Store.cost c.args.store.now c.begin.new.store c.args.runs.now c.begin.new.runs c.args.past.replies.now q c.begin.result) c.in-Begin.is
+    (subst (λ hs. D hs c.in-Begin.numbers.items) (c.as_slice-in-Begin.ensures.value ∙ c.handles.ensures.items ∙ ap (handles_of c.args.past.replies.now) c.as_slice.ensures.value)
+    (subst (D c.as_slice-in-Begin.result.now) c.as_slice-in-Begin-2.ensures.value c.begin.ensures))
 
-pub returns-in_ok-tuple-in-Tuple : goal.returns-in_ok-tuple-in-Tuple
-returns-in_ok-tuple-in-Tuple g c =
-    let rs = c.args.past.replies.now in
-    let made = c.in_ok-tuple-in-Tuple in
-    subst⁻¹ (λ q. Does g.S.Store.means g.S.Store.space g.S.Store.cost c.args.store.now c.tuple.new.store c.args.runs.now c.args.runs.now rs q (Ok made.field-0)) c.in-Tuple.is
-    (does_make g.S.Store.means g.S.Store.space g.S.Store.cost c.args.store.now c.tuple.new.store c.args.runs.now tupled (handles_of rs c.in-Tuple.parts.items) (handles_of rs c.as_slice-in-Tuple.result.now)
-    (ap (handles_of rs) c.as_slice-in-Tuple.ensures.value) made.field-0 made.ensures)
-
-pub returns-in_ok-apply-in-Apply : goal.returns-in_ok-apply-in-Apply
-returns-in_ok-apply-in-Apply g c =
-    let rs = c.args.past.replies.now in
-    let made = c.in_ok-apply-in-Apply in
-    subst⁻¹ (λ q. Does g.S.Store.means g.S.Store.space g.S.Store.cost c.args.store.now c.apply.new.store c.args.runs.now c.args.runs.now rs q (Ok made.field-0)) c.in-Apply.is
-    (does_make g.S.Store.means g.S.Store.space g.S.Store.cost c.args.store.now c.apply.new.store c.args.runs.now (applied c.in-Apply.function) (handles_of rs c.in-Apply.parts.items) (handles_of rs c.as_slice-in-Apply.result.now)
-    (ap (handles_of rs) c.as_slice-in-Apply.ensures.value) made.field-0 made.ensures)
+pub returns-in-Hear-clause-does : goal.returns-in-Hear-clause-does
+returns-in-Hear-clause-does g c =
+    subst⁻¹ (λ q. Does g.S.Store.means g.S.Store.space g.S.Store.cost c.args.store.now c.hear.new.store c.args.runs.now c.hear.new.runs c.args.past.replies.now q c.hear.result) c.in-Hear.is
+    (subst (λ h. HearsAt g.S.Store.means g.S.Store.space g.S.Store.cost c.args.store.now c.hear.new.store c.args.runs.now c.hear.new.runs c.in-Hear.role h c.hear.result) c.handle.ensures c.hear.ensures)

@@ -1,44 +1,21 @@
-use Rattle.std.proofs.Common.{◌≡◌, true, map, refl, inl, inr, ◌∙◌, ap, subst}
-use Rattle.std.proofs.lemmas.Result.{err_from_is_err_and}
+use Rattle.std.proofs.Common.{Ok, Err, map, ◌∙◌, ap, subst}
 use mathlib.Core.Path.{subst⁻¹}
-use Rattle.model.specs.Lists.{Every}
-use Rattle.program.specs.Held.{passes}
-use Rattle.roles.specs.declared.role.Role.{Role}
-use Rattle.sessions.specs.Starting.{short_count, NewRuns}
-use Rattle.sessions.proofs.Beginning.{can_be_held, performed, performed_some}
+use Rattle.sessions.specs.Starting.{short_count, TextRuns, RunsOf}
+use Rattle.sessions.proofs.Beginning.{never_unsound, performed}
 use Rattle.sessions.proofs.perform.perform.Goals as goal
 
-pub runs_of-requires : goal.runs_of-requires
-runs_of-requires g c =
+pub unreachable-requires : goal.unreachable-requires
+unreachable-requires g c =
     let T = c.in_ok-translation.translation in
-    subst⁻¹ (Every (λ (r : Role). passes c.as_slice-3.result.now r.rows.items ≡ true)) c.as_slice-2.ensures.value
-    (can_be_held c.args.limits c.args.text.now T c.in_ok-translation.ensures.answers c.in_ok-translation.ensures.held c.as_slice-3.result.now
-    (c.as_slice-3.ensures.value ∙ c.in_ok-counts.ensures ∙ ap (map short_count) c.as_slice.ensures.value))
-
-pub returns-in_err-counts : goal.returns-in_err-counts
-returns-in_err-counts g c =
-    let p = err_from_is_err_and c.from_residual-in_err-counts.result c.from_residual-in_err-counts.ensures.1 in
-    rw (p.1, p.2) (inl refl)
-
-pub returns-in_err-runs : goal.returns-in_err-runs
-returns-in_err-runs g c =
-    let p = err_from_is_err_and c.from_residual-in_err-runs.result c.from_residual-in_err-runs.ensures.1 in
-    rw (p.1, p.2) (inl refl)
-
-pub returns-in_err-perform_on : goal.returns-in_err-perform_on
-returns-in_err-perform_on g c =
-    let k = c.in_ok-translation in
-    let p = err_from_is_err_and c.from_residual-in_err-perform_on.result c.from_residual-in_err-perform_on.ensures.1 in
-    rw (p.1, p.2)
-    (inr (performed_some c.args.limits c.args.text.now k.translation k.ensures.answers k.ensures.law g.S.Store.means g.S.Store.space g.S.Store.cost c.args.store.now
-    c.as_mut_slice.result.now
-    (subst⁻¹ (NewRuns k.translation.roles.items) c.as_mut_slice.ensures.value (subst (λ rs. NewRuns rs c.in_ok-runs.runs.items) c.as_slice-2.ensures.value c.in_ok-runs.ensures))
-    c.perform_on.new.store c.perform_on.new.runs c.args.requests.now c.in_err-perform_on.ensures))
+    let counts = c.as_slice-2.result.now in
+    never_unsound c.args.limits c.args.text.now T c.in_ok-translation.ensures.answers c.in_ok-translation.ensures.held counts
+    (c.as_slice-2.ensures.value ∙ c.in_ok-counts.ensures ∙ ap (map short_count) c.as_slice.ensures.value)
+    (subst (RunsOf T counts) (c.in-Err-Unsound.is ∙ ap Err c.in-Err-Unsound.field-0-is) c.runs_of.ensures)
 
 pub returns : goal.returns
 returns g c =
-    let T = c.in_ok-translation.translation in
-    performed c.args.limits c.args.text.now T c.in_ok-translation.ensures.answers c.in_ok-translation.ensures.law g.S.Store.means g.S.Store.space g.S.Store.cost c.args.store.now
-    c.as_mut_slice.result.now
-    (subst⁻¹ (NewRuns T.roles.items) c.as_mut_slice.ensures.value (subst (λ rs. NewRuns rs c.in_ok-runs.runs.items) c.as_slice-2.ensures.value c.in_ok-runs.ensures))
-    c.perform_on.new.store c.perform_on.new.runs c.args.requests.now c.in_ok-perform_on.field-0.items c.in_ok-perform_on.ensures
+    let k = c.in_ok-translation in
+    let z = subst (RunsOf k.translation c.as_slice-2.result.now) c.in-Ok.is c.runs_of.ensures in
+    performed g.S.Store.means g.S.Store.space g.S.Store.cost c.args.limits c.args.text.now c.args.store.now c.perform_on.new.store c.as_mut_slice.result.now c.perform_on.new.runs
+    (subst⁻¹ (TextRuns c.args.limits c.args.text.now) c.as_mut_slice.ensures.value (z.1 c.args.limits c.args.text.now k.ensures.answers))
+    c.args.requests.now c.in_ok-perform_on.field-0.items c.in_ok-perform_on.ensures
