@@ -1,22 +1,19 @@
 -- New runs of a translation's roles are new runs of its specification.
-use Rattle.std.proofs.Common.{◌≡◌, ℕ, zero, suc, ◌<◌, ◌≤◌, true, false, List, [], ◌∷◌, length, map, get_or, take, vec_items, Ok, Err, Result, Vec, sym, refl, ap, ap₂, ◌∙◌, subst, inl, inr, arith}
+use Rattle.std.proofs.Common.{◌≡◌, ℕ, zero, suc, ◌<◌, ◌≤◌, true, false, List, [], ◌∷◌, length, map, get_or, vec_items, Ok, Err, Result, Vec, sym, refl, ap, ap₂, ◌∙◌, subst, inl, inr, arith}
 use Rattle.std.specs.declared.alloc.Global.{Global}
 use Rattle.std.proofs.lemmas.List.{length-map}
 use Rattle.std.proofs.Math.ListN.{get_or-map}
 use mathlib.Core.Path.{subst⁻¹}
 use Rattle.model.specs.Lists.{Every, SomeOf}
-use Rattle.model.specs.Trees.{Tree}
 use Rattle.model.specs.Specifications.{Specification}
 use Rattle.model.specs.Programs.{program}
 use Rattle.model.proofs.Lists.{every_some}
 use Rattle.program.specs.declared.action.Row.{Row}
-use Rattle.program.specs.declared.take_up.ProgramFault.{ProgramFault}
-use Rattle.program.specs.declared.take_up.ProgramFault.TheVariants.{Unsound, NoMemory}
 use Rattle.program.specs.Held.{passes}
 use Rattle.terms.specs.declared.declarations.Function.{Function}
 use Rattle.terms.specs.declared.limits.Limits.{Limits}
 use Rattle.terms.specs.Counts.{counts}
-use Rattle.terms.specs.Meanings.{signature_of}
+use Rattle.terms.specs.Meanings.{signature_of, functions_of}
 use Rattle.terms.specs.Scope.{Scope, Signature}
 use Rattle.terms.proofs.CountedScopes.{declared_counted}
 use Rattle.terms.proofs.Few.{declared_few}
@@ -27,18 +24,21 @@ use Rattle.roles.specs.Players.{player_of}
 use Rattle.roles.specs.Playing.{Player}
 use Rattle.roles.specs.Specified.{specified}
 use Rattle.roles.specs.Stages.{Stage}
-use Rattle.roles.specs.Staging.{stage_of, players_of, Staged}
+use Rattle.roles.specs.Staging.{stage_of, players_of}
 use Rattle.roles.specs.Translating.{translation}
 use Rattle.roles.specs.TranslationLaw.{Translated}
 use Rattle.roles.proofs.AllHeld.{Accepts, accepts, specified_counted}
 use Rattle.roles.proofs.Translated.{accepted_so_far, messages_typed}
 use Rattle.roles.proofs.TranslationLaw.{translation_law}
+use Rattle.store.specs.Semantics.{Semantics}
 use Rattle.run.specs.declared.run.Run.{Run}
 use Rattle.run.specs.Called.{Shows}
 use Rattle.run.specs.Plain.{new_plain}
 use Rattle.run.specs.Shown.{Meaning}
 use Rattle.sessions.specs.declared.reply.Reply.{Reply}
 use Rattle.sessions.specs.declared.request.Request.{Request}
+use Rattle.sessions.specs.declared.fault.RunsFault.{RunsFault}
+use Rattle.sessions.specs.declared.fault.RunsFault.TheVariants.{Unsound, NoMemory}
 use Rattle.sessions.specs.Performing.{Performed, PerformedText}
 use Rattle.sessions.specs.Starting.{short_count, IsNew, NewRuns, TextRuns, RunOf, AllNew, RunsOf}
 use Rattle.sessions.proofs.Zips.{zip_long, zip_at}
@@ -51,7 +51,7 @@ some_at Q (y ∷ ys) (suc i) x l q = inr (some_at Q ys i x (omega arith) q)
 
 -- a role whose rows cannot be held
 pub new_refused : (counts : List ℕ) (roles : List Role) (i : ℕ) (role : Role) → i < length roles → role ≡ get_or roles i role → (rows : List Row) → rows ≡ vec_items role.rows
-    → (e : ProgramFault) → RunOf counts rows (Err e) → AllNew counts roles (Err e)
+    → (e : RunsFault) → RunOf counts rows (Err e) → AllNew counts roles (Err e)
 new_refused counts roles i role l is rows same Unsound q =
     some_at (λ (r : Role). passes counts (vec_items r.rows) ≡ false) roles i role l (subst (λ (r : Role). passes counts (vec_items r.rows) ≡ false) is (subst (λ xs. passes counts xs ≡ false) same q))
 new_refused counts roles i role l is rows same NoMemory q = tt
@@ -66,20 +66,20 @@ any : {A : Type 0} (xs : List A) (k : ℕ) → k < length xs → A
 any [] k l = absurd (omega arith)
 any (x ∷ xs) k l = x
 
-module _ (limits : Limits) (text : List ℕ) (T : Translation) (s : Staged (translation limits text) T) where
+module _ (limits : Limits) (text : List ℕ) (T : Translation) (s : translation limits text ≡ Ok (stage_of T)) where
   abbrev G : Stage
-  G = stage_of T s.scope
+  G = stage_of T
 
   a : Accepts limits text G
-  a = accepts limits text G s.is
+  a = accepts limits text G s
 
   -- the counts of the parts of a translation's functions
-  pub counts_short : map short_count (vec_items T.declarations.functions) ≡ counts_of T
-  counts_short = short_counts (vec_items T.declarations.functions) (subst⁻¹ (Every (λ (x : Signature). length x.parameters ≤ 8)) (s.means.functions ∙ ap (λ (z : Scope). z.functions) (accepted_so_far text limits a.spec a.scope a.declares.scope a.spec.lines [] G a.lined).scope)
+  pub counts_short : map short_count (functions_of T.declarations) ≡ counts_of T
+  counts_short = short_counts (functions_of T.declarations) (subst⁻¹ (Every (λ (x : Signature). length x.parameters ≤ 8)) (ap (λ (z : Scope). z.functions) (accepted_so_far text limits a.spec a.scope a.declares.scope a.spec.lines [] G a.lined).scope)
       (declared_few text limits a.declares.tree a.spec a.scope a.declares.shaped a.declares.scope))
 
   -- its programs can be held with these
-  pub can_be_held : AllHeld T → (cs : List ℕ) → cs ≡ map short_count (vec_items T.declarations.functions) → Every (λ (r : Role). passes cs (vec_items r.rows) ≡ true) (vec_items T.roles)
+  pub can_be_held : AllHeld T → (cs : List ℕ) → cs ≡ map short_count (functions_of T.declarations) → Every (λ (r : Role). passes cs (vec_items r.rows) ≡ true) (vec_items T.roles)
   can_be_held h cs e = subst⁻¹ (λ cs. Every (λ (r : Role). passes cs (vec_items r.rows) ≡ true) (vec_items T.roles)) (e ∙ counts_short) h.each
 
   abbrev X : Specification
@@ -125,20 +125,20 @@ module _ (limits : Limits) (text : List ℕ) (T : Translation) (s : Staged (tran
     }
 
 -- new runs of a translation's roles
-pub runs_of : (T : Translation) (counts : List ℕ) (r : Result (Vec Run Global) ProgramFault) → AllNew counts (vec_items T.roles) r → RunsOf T counts r
+pub runs_of : (T : Translation) (counts : List ℕ) (r : Result (Vec Run Global) RunsFault) → AllNew counts (vec_items T.roles) r → RunsOf T counts r
 runs_of T counts (Ok runs) z = (z, λ limits text s. text_runs limits text T s (vec_items runs) z)
 runs_of T counts (Err Unsound) z = z
 runs_of T counts (Err NoMemory) z = tt
 
 -- with the counts of its functions they can be held
-pub never_unsound : (limits : Limits) (text : List ℕ) (T : Translation) → Staged (translation limits text) T → AllHeld T → (cs : List ℕ) → cs ≡ map short_count (vec_items T.declarations.functions)
+pub never_unsound : (limits : Limits) (text : List ℕ) (T : Translation) → translation limits text ≡ Ok (stage_of T) → AllHeld T → (cs : List ℕ) → cs ≡ map short_count (functions_of T.declarations)
     → ¬ SomeOf (λ (r : Role). passes cs (vec_items r.rows) ≡ false) (vec_items T.roles)
 never_unsound limits text T s h cs e i = every_some _ _ ⊥ (λ r p q. absurd (cc)) (vec_items T.roles) (can_be_held limits text T s h cs e) i
 
 -- what was performed on new runs of a text's roles
-pub performed : {S : Type 0} (means : S → Meaning) (space : S → ℕ) (cost : Tree → ℕ) (limits : Limits) (text : List ℕ) (old new : S) (runs runs' : List Run) → TextRuns limits text runs
-    → (requests : List Request) (replies : List Reply) → Performed means space cost old new runs runs' requests replies → PerformedText means space cost limits text requests old new replies
-performed means space cost limits text old new runs runs' t requests replies p = record {
+pub performed : {S : Type 0} (M : Semantics S) (limits : Limits) (text : List ℕ) (old new : S) (runs runs' : List Run) → TextRuns limits text runs
+    → (requests : List Request) (replies : List Reply) → Performed M old new runs runs' requests replies → PerformedText M limits text requests old new replies
+performed M limits text old new runs runs' t requests replies p = record {
   fresh = runs;
   left = runs';
   roles = t;

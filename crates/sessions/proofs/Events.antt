@@ -7,6 +7,7 @@ use Rattle.model.specs.Sessions.{Event, begin, say, hear, build, other, Answer}
 use Rattle.store.specs.declared.fault.StoreFault.{StoreFault}
 use Rattle.store.specs.Makers.{wanted}
 use Rattle.store.specs.Questions.{shape_answer, part_value, unlocked_value, same_answer}
+use Rattle.store.specs.Semantics.{Semantics}
 use Rattle.run.specs.declared.fault.RunFault.{RunFault}
 use Rattle.run.specs.declared.fault.RunFault.TheVariants.{OutOfTurn, Counts}
 use Rattle.run.specs.Called.{said, did, unsaid}
@@ -62,19 +63,19 @@ Untouched old new (replies.Run (OutOfTurn p)) = new ≡ old
 Untouched old new (replies.Run (Counts p)) = new ≡ old
 Untouched old new reply = Unit {0}
 
-module _ {S : Type 0} (means : S → Meaning) (space : S → ℕ) (cost : Tree → ℕ) where
+module _ {S : Type 0} (M : Semantics S) where
   module _ (roles : ℕ) (memories : ℕ → Memory) (answer : Answer) (rs : List Reply) (old new : S) where
     abbrev pub Replies : Request → Reply → Type 0
     Replies (Begin r given numbers) reply = cond (nat_lt r roles) (Took answer reply × Untouched old new reply) ((new ≡ old) × (reply ≡ replies.NoRole))
-    Replies (Say r) reply = cond (nat_lt r roles) (Told (means new) answer reply × Untouched old new reply) ((new ≡ old) × (reply ≡ replies.NoRole))
+    Replies (Say r) reply = cond (nat_lt r roles) (Told (M.means new) answer reply × Untouched old new reply) ((new ≡ old) × (reply ≡ replies.NoRole))
     Replies (Hear r h) reply = cond (nat_lt r roles) (Took answer reply × Untouched old new reply) ((new ≡ old) × (reply ≡ replies.NoRole))
-    Replies (Register r n) reply = (new ≡ old) × cond (nat_lt r roles) (Looked (means old) (memories r n) reply) (reply ≡ replies.NoRole)
-    Replies (Atom n) reply = Made means space cost old new (Ok (leaf n)) reply
-    Replies (Tuple parts) reply = Made means space cost old new (wanted (means old) tupled (handles_of rs (vec_items parts))) reply
-    Replies (Crypt text key) reply = Made means space cost old new (wanted (means old) crypted (handle_of rs text ∷ handle_of rs key ∷ [])) reply
-    Replies (Apply f parts) reply = Made means space cost old new (wanted (means old) (applied f) (handles_of rs (vec_items parts))) reply
-    Replies (Shape h) reply = (new ≡ old) × (reply ≡ reply_by replies.Shape (shape_answer (means old (handle_of rs h))))
-    Replies (Part h i) reply = (new ≡ old) × Found means space cost old (part_value (means old (handle_of rs h)) i) reply
-    Replies (Unlock h k) reply = (new ≡ old) × Found means space cost old (unlocked_value (means old (handle_of rs h)) (means old (handle_of rs k))) reply
-    Replies (Same h k) reply = (new ≡ old) × (reply ≡ reply_by replies.Same (same_answer (means old (handle_of rs h)) (means old (handle_of rs k))))
-    Replies Space reply = (new ≡ old) × (reply ≡ replies.Space (space old))
+    Replies (Register r n) reply = (new ≡ old) × cond (nat_lt r roles) (Looked (M.means old) (memories r n) reply) (reply ≡ replies.NoRole)
+    Replies (Atom n) reply = Made M old new (Ok (leaf n)) reply
+    Replies (Tuple parts) reply = Made M old new (wanted (M.means old) tupled (handles_of rs (vec_items parts))) reply
+    Replies (Crypt text key) reply = Made M old new (wanted (M.means old) crypted (handle_of rs text ∷ handle_of rs key ∷ [])) reply
+    Replies (Apply f parts) reply = Made M old new (wanted (M.means old) (applied f) (handles_of rs (vec_items parts))) reply
+    Replies (Shape h) reply = (new ≡ old) × (reply ≡ reply_by replies.Shape (shape_answer (M.means old (handle_of rs h))))
+    Replies (Part h i) reply = (new ≡ old) × Found M old (part_value (M.means old (handle_of rs h)) i) reply
+    Replies (Unlock h k) reply = (new ≡ old) × Found M old (unlocked_value (M.means old (handle_of rs h)) (M.means old (handle_of rs k))) reply
+    Replies (Same h k) reply = (new ≡ old) × (reply ≡ reply_by replies.Same (same_answer (M.means old (handle_of rs h)) (M.means old (handle_of rs k))))
+    Replies Space reply = (new ≡ old) × (reply ≡ replies.Space (M.space old))

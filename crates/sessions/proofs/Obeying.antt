@@ -22,6 +22,7 @@ use Rattle.model.proofs.Duties.{IsLine, own_lines}
 use Rattle.model.proofs.Counts.{start_gives, stages_news}
 use Rattle.model.proofs.Lines.{good_nobody}
 use Rattle.model.proofs.Answering.{decides}
+use Rattle.store.specs.Semantics.{Semantics}
 use Rattle.run.specs.declared.run.Run.{Run}
 use Rattle.run.specs.declared.fault.RunFault.{RunFault}
 use Rattle.run.specs.Called.{said}
@@ -139,10 +140,10 @@ module _ (X : Specification) where
             (and_right (eqb (length hs) (sessions.gives (first_actions (stages X r)))) (eqb (length ns) (sessions.news (all_actions (stages X r)))) t) ∙ news_all,
       )
 
-module _ {S : Type 0} (means : S → Meaning) (space : S → ℕ) (cost : Tree → ℕ) (small : (s : S) → Small (means s)) (X : Specification) (acc : Accepted X) where
-  module _ (H : List (Step S)) (s : S) (runs : List Run) (st : State) (a : At means space cost small X acc H s runs st) where
+module _ {S : Type 0} (M : Semantics S) (cost : Tree → ℕ) (small : (s : S) → Small (M.means s)) (X : Specification) (acc : Accepted X) where
+  module _ (H : List (Step S)) (s : S) (runs : List Run) (st : State) (a : At M cost small X acc H s runs st) where
     -- what a role holds
-    pub stock_same : (r : ℕ) → (st.views r).holdings ≡ stock means X r H
+    pub stock_same : (r : ℕ) → (st.views r).holdings ≡ stock M.means X r H
     stock_same r = ap₂ (λ (x : List (Tree × Tree)) (y : List (ℕ × ℕ)). record { taken = x; made = y }) (a.tells r).taken (a.tells r).made
 
     -- whose turn it is
@@ -182,41 +183,41 @@ module _ {S : Type 0} (means : S → Meaning) (space : S → ℕ) (cost : Tree �
         let h = head_of (drop (length (taken_by r H)) (duties X r)) (to_do (X.knows r)) e in
         (a.tells r).ahead ∙ ap (λ (l : List (Step S)). drop (length l) (stages X r)) (begins_first X r (taken_by r H) (to_do (X.knows r)) h.0 h.1 tt)
 
-    module _ (e : Step S) (d : Did means space cost s runs e) where
+    module _ (e : Step S) (d : Did M s runs e) where
       abbrev ev : Event
-      ev = event means space cost small X acc e
+      ev = event M cost small X acc e
 
       abbrev answered : Answer
       answered = (call cost st ev).1
 
       -- what a call of a role that is there was to the model, and that its reply tells the answer
       abbrev Answers : Request → Type 0
-      Answers q = Replies means space cost X.roles (λ k. (st.views k).memory) answered e.earlier e.before e.after q e.reply
+      Answers q = Replies M X.roles (λ k. (st.views k).memory) answered e.earlier e.before e.after q e.reply
 
       answers : (q : Request) → e.asked ≡ q → Answers q
-      answers q k = subst Answers k (replied means space cost small X acc H s runs st a e d)
+      answers q k = subst Answers k (replied M cost small X acc H s runs st a e d)
 
       there : (b : Bool) → b ≡ true → (Y : Type 0) → cond b (Y × Untouched e.before e.after e.reply) ((e.after ≡ e.before) × (e.reply ≡ replies.NoRole)) → Y
       there true q Y y = y.0
       there false q Y y = absurd (cc)
 
       pub begin_is : (p : ℕ) (hs : Vec Handle Global) (numbers : Vec ℕ Global) → e.asked ≡ Begin p hs numbers → p < X.roles
-          → (ev ≡ begin p (values_in means e) (vec_items numbers)) × Tells answered e.reply
+          → (ev ≡ begin p (values_in M.means e) (vec_items numbers)) × Tells answered e.reply
       begin_is p hs numbers k l = (
-        ap (event_of X.roles (means e.before) e.earlier) k ∙ ap (λ b. cond b (begin p (values_at (means e.before) e.earlier (Begin p hs numbers)) (vec_items numbers)) other) (lt-ltb p X.roles l)
-            ∙ ap (λ q. begin p (values_at (means e.before) e.earlier q) (vec_items numbers)) (sym k),
+        ap (event_of X.roles (M.means e.before) e.earlier) k ∙ ap (λ b. cond b (begin p (values_at (M.means e.before) e.earlier (Begin p hs numbers)) (vec_items numbers)) other) (lt-ltb p X.roles l)
+            ∙ ap (λ q. begin p (values_at (M.means e.before) e.earlier q) (vec_items numbers)) (sym k),
         took_tells answered e.reply (there (ltb p X.roles) (lt-ltb p X.roles l) (Took answered e.reply) (answers (Begin p hs numbers) k)),
       )
 
       pub say_is : (p : ℕ) → e.asked ≡ Say p → p < X.roles → (ev ≡ say p) × Tells answered e.reply
       say_is p k l = (
-        ap (event_of X.roles (means e.before) e.earlier) k ∙ ap (λ b. cond b (say p) other) (lt-ltb p X.roles l),
-        told_tells (means e.after) answered e.reply (there (ltb p X.roles) (lt-ltb p X.roles l) (SaidSo (means e.after) answered e.reply) (answers (Say p) k)),
+        ap (event_of X.roles (M.means e.before) e.earlier) k ∙ ap (λ b. cond b (say p) other) (lt-ltb p X.roles l),
+        told_tells (M.means e.after) answered e.reply (there (ltb p X.roles) (lt-ltb p X.roles l) (SaidSo (M.means e.after) answered e.reply) (answers (Say p) k)),
       )
 
-      pub hear_is : (p : ℕ) (h : Handle) → e.asked ≡ Hear p h → p < X.roles → (ev ≡ hear p (as_option (means e.before (handle_of e.earlier h)))) × Tells answered e.reply
+      pub hear_is : (p : ℕ) (h : Handle) → e.asked ≡ Hear p h → p < X.roles → (ev ≡ hear p (as_option (M.means e.before (handle_of e.earlier h)))) × Tells answered e.reply
       hear_is p h k l = (
-        ap (event_of X.roles (means e.before) e.earlier) k ∙ ap (λ b. cond b (hear p (as_option (means e.before (handle_of e.earlier h)))) other) (lt-ltb p X.roles l),
+        ap (event_of X.roles (M.means e.before) e.earlier) k ∙ ap (λ b. cond b (hear p (as_option (M.means e.before (handle_of e.earlier h)))) other) (lt-ltb p X.roles l),
         took_tells answered e.reply (there (ltb p X.roles) (lt-ltb p X.roles l) (Took answered e.reply) (answers (Hear p h) k)),
       )
 
@@ -231,12 +232,12 @@ module _ {S : Type 0} (means : S → Meaning) (space : S → ℕ) (cost : Tree �
       either n m t (inl x) = inl ((t.refuses n).0 x)
       either n m t (inr x) = inr ((t.refuses m).0 x)
 
-      hear_at : (r l : ℕ) (h : Handle) (v : Tree) → e.asked ≡ Hear r h → next_duty X r H ≡ some (listen l) → means e.before (handle_of e.earlier h) ≡ Some v
+      hear_at : (r l : ℕ) (h : Handle) (v : Tree) → e.asked ≡ Hear r h → next_duty X r H ≡ some (listen l) → M.means e.before (handle_of e.earlier h) ≡ Some v
           → (ev ≡ hear r (some v)) × Tells answered e.reply
       hear_at r l h v k q m = let z = hear_is r h k (duty_role r (listen l) q) in (z.0 ∙ ap (λ o. hear r (as_option o)) m, z.1)
 
       begin_at : (r : ℕ) (hs : Vec Handle Global) (numbers : Vec ℕ Global) (vs : List Tree) → e.asked ≡ Begin r hs numbers → next_duty X r H ≡ some (to_do (X.knows r))
-          → values_in means e ≡ map some vs → (ev ≡ begin r (map some vs) (vec_items numbers)) × Tells answered e.reply
+          → values_in M.means e ≡ map some vs → (ev ≡ begin r (map some vs) (vec_items numbers)) × Tells answered e.reply
       begin_at r hs numbers vs k q m = let z = begin_is r hs numbers k (duty_role r (to_do (X.knows r)) q) in (z.0 ∙ ap (λ o. begin r o (vec_items numbers)) m, z.1)
 
       fits : (r : ℕ) (hs : List (Option Tree)) (ns : List ℕ) → next_duty X r H ≡ some (to_do (X.knows r)) → RightCounts X r hs ns → T (counts_right (st.views r).ahead hs ns)
@@ -245,7 +246,7 @@ module _ {S : Type 0} (means : S → Meaning) (space : S → ℕ) (cost : Tree �
       fitting : (r : ℕ) (hs : List (Option Tree)) (ns : List ℕ) → next_duty X r H ≡ some (to_do (X.knows r)) → T (counts_right (st.views r).ahead hs ns) → RightCounts X r hs ns
       fitting r hs ns q t = fit_counts X acc r (duty_role r (to_do (X.knows r)) q) hs ns (subst (λ l. T (counts_right l hs ns)) (ahead_begin r q) t)
 
-      fits_at : (r : ℕ) (hs : List (Option Tree)) (ns : List ℕ) → next_duty X r H ≡ some (to_do (X.knows r)) → values_in means e ≡ hs → RightCounts X r (values_in means e) ns
+      fits_at : (r : ℕ) (hs : List (Option Tree)) (ns : List ℕ) → next_duty X r H ≡ some (to_do (X.knows r)) → values_in M.means e ≡ hs → RightCounts X r (values_in M.means e) ns
           → T (counts_right (st.views r).ahead hs ns)
       fits_at r hs ns q m c = fits r hs ns q (subst (λ l. RightCounts X r l ns) m c)
 
@@ -267,7 +268,7 @@ module _ {S : Type 0} (means : S → Meaning) (space : S → ℕ) (cost : Tree �
       iff_not : {A B C D : Type 0} → (A ↔ C) → (A ↔ (¬ B)) → (B → D) → (D → B) → C ↔ (¬ D)
       iff_not i j f g = ((λ c d. (j.0 (i.1 c)) (g d)), λ n. i.0 (j.1 (λ b. n (f b))))
 
-      late : (q : Request) → e.asked ≡ q → (r : ℕ) → T (calls r q) → r < X.roles → Refused 11 e.reply ↔ (¬ InTurn means space cost X H q)
+      late : (q : Request) → e.asked ≡ q → (r : ℕ) → T (calls r q) → r < X.roles → Refused 11 e.reply ↔ (¬ InTurn M X H q)
       late (Begin p hs ns) k r t l =
           let i : r ≡ p = eqb→eq r p t in
           let z = begin_is p hs ns k (subst (λ n. n < X.roles) i l) in
@@ -282,7 +283,7 @@ module _ {S : Type 0} (means : S → Meaning) (space : S → ℕ) (cost : Tree �
           let i : r ≡ p = eqb→eq r p t in
           let z = hear_is p h k (subst (λ n. n < X.roles) i l) in
           iff_not (z.1.refuses 11) refusals.eleven
-          (λ b. let x : InTurn_of st (hear p (as_option (means e.before (handle_of e.earlier h)))) = subst (InTurn_of st) z.0 b in (x.0, hear_of_turn p x.0 x.1))
+          (λ b. let x : InTurn_of st (hear p (as_option (M.means e.before (handle_of e.earlier h)))) = subst (InTurn_of st) z.0 b in (x.0, hear_of_turn p x.0 x.1))
           (λ q. subst⁻¹ (InTurn_of st) z.0 (q.0, turn_of_duty p (listen q.0) q.1))
       late (Register p n) k r t l = elim t [ ]
       late (Atom n) k r t l = elim t [ ]
@@ -310,11 +311,11 @@ module _ {S : Type 0} (means : S → Meaning) (space : S → ℕ) (cost : Tree �
       say_there : (r : ℕ) → e.asked ≡ Say r → T (is_taken e.reply) → r < X.roles
       say_there r k t = go (ltb r X.roles) refl (answers (Say r) k)
         where
-          go : (b : Bool) → ltb r X.roles ≡ b → cond b (SaidSo (means e.after) answered e.reply × Untouched e.before e.after e.reply) ((e.after ≡ e.before) × (e.reply ≡ replies.NoRole)) → r < X.roles
+          go : (b : Bool) → ltb r X.roles ≡ b → cond b (SaidSo (M.means e.after) answered e.reply × Untouched e.before e.after e.reply) ((e.after ≡ e.before) × (e.reply ≡ replies.NoRole)) → r < X.roles
           go true i y = ltb-true r X.roles i
           go false i y = elim (subst (λ w. T (is_taken w)) y.1 t) [ ]
 
-      pub decided : Decided means space cost X H e
+      pub decided : Decided M X H e
       decided = record {
         hear_taken = λ r l h v k q m f.
             let z = hear_at r l h v k q m in
@@ -348,16 +349,16 @@ module _ {S : Type 0} (means : S → Meaning) (space : S → ℕ) (cost : Tree �
         say_answers = λ r k t.
             let l = say_there r k t in
             let z = say_is r k l in
-            let y = there (ltb r X.roles) (lt-ltb r X.roles l) (SaidSo (means e.after) answered e.reply) (answers (Say r) k) in
-            say_answer (means e.after) r z.0 y.0 y.1 y.2 t;
+            let y = there (ltb r X.roles) (lt-ltb r X.roles l) (SaidSo (M.means e.after) answered e.reply) (answers (Say r) k) in
+            say_answer (M.means e.after) r z.0 y.0 y.1 y.2 t;
         out_of_turn = λ r t l. late e.asked refl r t l;
         wrong_counts = λ r hs numbers k q.
             let z = begin_is r hs numbers k (duty_role r (to_do (X.knows r)) q) in (
               (λ x c.
-                  let w : WrongCounts st (begin r (values_in means e) (vec_items numbers)) = subst (WrongCounts st) z.0 (refusals.thirteen.0 ((z.1.refuses 13).1 x)) in
-                  w.1 (fits r (values_in means e) (vec_items numbers) q c)),
+                  let w : WrongCounts st (begin r (values_in M.means e) (vec_items numbers)) = subst (WrongCounts st) z.0 (refusals.thirteen.0 ((z.1.refuses 13).1 x)) in
+                  w.1 (fits r (values_in M.means e) (vec_items numbers) q c)),
               λ n. (z.1.refuses 13).0 (refusals.thirteen.1 (subst⁻¹ (WrongCounts st) z.0
-                  (turn_of_duty r (to_do (X.knows r)) q, λ t. n (fitting r (values_in means e) (vec_items numbers) q t)))),
+                  (turn_of_duty r (to_do (X.knows r)) q, λ t. n (fitting r (values_in M.means e) (vec_items numbers) q t)))),
             );
         hear_invalid = λ r l h k q m.
             let z = hear_is r h k (duty_role r (listen l) q) in

@@ -19,6 +19,7 @@ use Rattle.model.proofs.Coming.{only_first}
 use Rattle.model.proofs.Answering.{decides}
 use Rattle.store.specs.declared.fault.StoreFault.{StoreFault}
 use Rattle.store.specs.Makers.{wanted}
+use Rattle.store.specs.Semantics.{Semantics}
 use Rattle.run.specs.declared.run.Run.{Run}
 use Rattle.run.specs.Called.{said, Shows}
 use Rattle.run.specs.Plain.{new_plain}
@@ -131,41 +132,46 @@ say_value : (m : Meaning) (o : Option Tree) (x : Result ℕ RunFault) (r : Reply
 say_value m o (Ok h) r e q = taken_same e ∙ ap (λ z. as_option (m (handle_in z))) (sym q)
 say_value m o (Err f) r e q = absurd (cc)
 
-module _ {S : Type 0} (means : S → Meaning) (space : S → ℕ) (cost : Tree → ℕ) (small : (s : S) → Small (means s)) (X : Specification) (acc : Accepted X) where
+module _ {S : Type 0} (M : Semantics S) (cost : Tree → ℕ) (small : (s : S) → Small (M.means s)) (X : Specification) (acc : Accepted X) where
   -- the event that a step was to the model
   abbrev pub event : Step S → Event
-  event e = event_of X.roles (means e.before) e.earlier e.asked
+  event e = event_of X.roles (M.means e.before) e.earlier e.asked
 
   -- the runs stand as the model's, and what was observed tells how
   pub record At (H : List (Step S)) (s : S) (runs : List Run) (st : State) : Type 0 where
     pub many : length runs ≡ X.roles
-    pub stands : Stands (means s) (space s) runs (plays_of st)
+    pub priced : M.cost s ≡ cost
+    pub stands : Stands (M.means s) (M.space s) runs (plays_of st)
     pub attend : AllAttend X st
     pub shaped : AllShaped st
-    pub tells : (r : ℕ) → Told means X r (taken_by r H) (st.views r)
+    pub tells : (r : ℕ) → Told M.means X r (taken_by r H) (st.views r)
 
   -- new runs stand as the model's
-  new_stand : (s : S) (runs : List Run) → Begins X runs → (k : ℕ) (run : Run) → k < length runs → Shows (means s) (get_or runs k run) ((plays_of (model.new_runs X (space s))).runs k)
+  new_stand : (s : S) (runs : List Run) → Begins X runs → (k : ℕ) (run : Run) → k < length runs → Shows (M.means s) (get_or runs k run) ((plays_of (model.new_runs X (M.space s))).runs k)
   new_stand s runs b k run l =
-      subst (λ (p : Playing). Shows (means s) (get_or runs k run) (p.runs k)) (plain_law X acc (λ t. 1) (space s) []).state
-      (subst⁻¹ (λ b. Shows (means s) (get_or runs k run) (cond b (new_plain (program X k)) no_run)) (lt-ltb k X.roles (subst (λ n. k < n) b.many l)) (b.fresh (means s) k run l))
+      subst (λ (p : Playing). Shows (M.means s) (get_or runs k run) (p.runs k)) (plain_law X acc (λ t. 1) (M.space s) []).state
+      (subst⁻¹ (λ b. Shows (M.means s) (get_or runs k run) (cond b (new_plain (program X k)) no_run)) (lt-ltb k X.roles (subst (λ n. k < n) b.many l)) (b.fresh (M.means s) k run l))
 
-  pub at_start : (s : S) (runs : List Run) → Begins X runs → At [] s runs (model.new_runs X (space s))
-  at_start s runs b = record {
+  pub at_start : (s : S) (runs : List Run) → M.cost s ≡ cost → Begins X runs → At [] s runs (model.new_runs X (M.space s))
+  at_start s runs e b = record {
     many = b.many;
+    priced = e;
     stands = record { space = refl; each = new_stand s runs b };
-    attend = new_attend X acc (space s);
+    attend = new_attend X acc (M.space s);
     shaped = λ r. (0, program_shaped X acc r);
-    tells = λ r. told_new means X r;
+    tells = λ r. told_new M.means X r;
   }
 
-  module _ (H : List (Step S)) (s : S) (runs : List Run) (st : State) (a : At H s runs st) (e : Step S) (d : Did means space cost s runs e) where
-    stands_here : Stands (means e.before) (space e.before) runs (plays_of st)
-    stands_here = subst⁻¹ (λ z. Stands (means z) (space z) runs (plays_of st)) d.before a.stands
+  module _ (H : List (Step S)) (s : S) (runs : List Run) (st : State) (a : At H s runs st) (e : Step S) (d : Did M s runs e) where
+    stands_here : Stands (M.means e.before) (M.space e.before) runs (plays_of st)
+    stands_here = subst⁻¹ (λ z. Stands (M.means z) (M.space z) runs (plays_of st)) d.before a.stands
 
-    moves : Moves means space cost e.before e.after runs e.runs_after (event_of (length runs) (means e.before) e.earlier e.asked)
-        (λ memories answer. Replies means space cost (length runs) memories answer e.earlier e.before e.after e.asked e.reply)
-    moves = does_moves means space cost small e.before e.after runs e.runs_after e.earlier e.reply e.asked (subst (λ l. Does means space cost e.before e.after l e.runs_after e.earlier e.asked e.reply) d.runs_before d.does)
+    moves : Moves M e.before e.after runs e.runs_after (event_of (length runs) (M.means e.before) e.earlier e.asked)
+        (λ memories answer. Replies M (length runs) memories answer e.earlier e.before e.after e.asked e.reply)
+    moves = does_moves M small e.before e.after runs e.runs_after e.earlier e.reply e.asked (subst (λ l. Does M e.before e.after l e.runs_after e.earlier e.asked e.reply) d.runs_before d.does)
+
+    priced_here : M.cost e.before ≡ cost
+    priced_here = ap M.cost d.before ∙ a.priced
 
     abbrev after : State × Answer
     after = call cost st (event e)
@@ -173,19 +179,21 @@ module _ {S : Type 0} (means : S → Meaning) (space : S → ℕ) (cost : Tree �
     pub same : play cost (plays_of st) (event e) ≡ (plays_of after.0, after.1)
     same = play_same cost st a.shaped (event e) ((decides X cost st a.attend).numbered (event e))
 
-    stands_then : Stands (means e.after) (space e.after) e.runs_after (plays_of after.0)
-    stands_then = subst (λ (x : Playing × Answer). Stands (means e.after) (space e.after) e.runs_after x.0) same
-        (subst (λ n. Stands (means e.after) (space e.after) e.runs_after (play cost (plays_of st) (event_of n (means e.before) e.earlier e.asked)).0) a.many (moves.stands (plays_of st) stands_here))
+    stands_then : Stands (M.means e.after) (M.space e.after) e.runs_after (plays_of after.0)
+    stands_then = subst (λ (x : Playing × Answer). Stands (M.means e.after) (M.space e.after) e.runs_after x.0) same
+        (subst (λ n. Stands (M.means e.after) (M.space e.after) e.runs_after (play cost (plays_of st) (event_of n (M.means e.before) e.earlier e.asked)).0) a.many
+        (subst (λ c. Stands (M.means e.after) (M.space e.after) e.runs_after (play c (plays_of st) (event_of (length runs) (M.means e.before) e.earlier e.asked)).0) priced_here (moves.stands (plays_of st) stands_here)))
 
     -- what was replied
     abbrev Answers : Request → Type 0
-    Answers q = Replies means space cost X.roles (λ k. (st.views k).memory) after.1 e.earlier e.before e.after q e.reply
+    Answers q = Replies M X.roles (λ k. (st.views k).memory) after.1 e.earlier e.before e.after q e.reply
 
     pub replied : Answers e.asked
     replied =
-        subst (λ (x : Playing × Answer). Replies means space cost X.roles (λ k. (st.views k).memory) x.1 e.earlier e.before e.after e.asked e.reply) same
-        (subst (λ n. Replies means space cost n (λ k. (st.views k).memory) (play cost (plays_of st) (event_of n (means e.before) e.earlier e.asked)).1 e.earlier e.before e.after e.asked e.reply) a.many
-        (moves.replied (plays_of st) stands_here))
+        subst (λ (x : Playing × Answer). Replies M X.roles (λ k. (st.views k).memory) x.1 e.earlier e.before e.after e.asked e.reply) same
+        (subst (λ n. Replies M n (λ k. (st.views k).memory) (play cost (plays_of st) (event_of n (M.means e.before) e.earlier e.asked)).1 e.earlier e.before e.after e.asked e.reply) a.many
+        (subst (λ c. Replies M (length runs) (λ k. (st.views k).memory) (play c (plays_of st) (event_of (length runs) (M.means e.before) e.earlier e.asked)).1 e.earlier e.before e.after e.asked e.reply) priced_here
+        (moves.replied (plays_of st) stands_here)))
 
     -- a call of one role was taken, or no run moved
     record Moved (p : ℕ) : Type 0 where
@@ -193,17 +201,17 @@ module _ {S : Type 0} (means : S → Meaning) (space : S → ℕ) (cost : Tree �
       vs : List Tree
       ns : List ℕ
       advances : Advances cost st p turn vs ns after
-      values : valid (values_in means e) ≡ vs
+      values : valid (values_in M.means e) ≡ vs
       numbers : ((ns ≡ (st.views p).numbers) × (numbers_in e.asked ≡ [])) ⊎ ((taken_by p H ≡ []) × (ns ≡ numbers_in e.asked))
-      says : (d : Duty) → turn_of d ≡ advances.stage.turn → told advances.stage.turn (answer advances.stage.actions advances.machine.mem) ≡ said_in means X d e
+      says : (d : Duty) → turn_of d ≡ advances.stage.turn → told advances.stage.turn (answer advances.stage.actions advances.machine.mem) ≡ said_in M.means X d e
       taken : is_taken e.reply ≡ true
 
     abbrev Told_then : (ℕ → model.View) → Type 0
-    Told_then views = (r : ℕ) → Told means X r (taken_by r (H ++ (e ∷ []))) (views r)
+    Told_then views = (r : ℕ) → Told M.means X r (taken_by r (H ++ (e ∷ []))) (views r)
 
-    still : (r : ℕ) (b : Bool) → (calls r e.asked && is_taken e.reply) ≡ b → b ≡ false → Told means X r (taken_by r (H ++ (e ∷ []))) (st.views r)
+    still : (r : ℕ) (b : Bool) → (calls r e.asked && is_taken e.reply) ≡ b → b ≡ false → Told M.means X r (taken_by r (H ++ (e ∷ []))) (st.views r)
     still r true p q = absurd (cc)
-    still r false p q = subst⁻¹ (λ l. Told means X r l (st.views r)) (taken_more r H e ∙ ap (λ b. cond b (taken_by r H ++ (e ∷ [])) (taken_by r H)) p) (a.tells r)
+    still r false p q = subst⁻¹ (λ l. Told M.means X r l (st.views r)) (taken_more r H e ∙ ap (λ b. cond b (taken_by r H ++ (e ∷ [])) (taken_by r H)) p) (a.tells r)
 
     and_none : (b c : Bool) → c ≡ false → (b && c) ≡ false
     and_none true c q = q
@@ -211,22 +219,22 @@ module _ {S : Type 0} (means : S → Meaning) (space : S → ℕ) (cost : Tree �
 
     -- no run moved
     unmoved : after.0.views ≡ st.views → ((r : ℕ) → (calls r e.asked && is_taken e.reply) ≡ false) → Told_then after.0.views
-    unmoved v f r = subst⁻¹ (λ views. Told means X r (taken_by r (H ++ (e ∷ []))) (views r)) v (still r (calls r e.asked && is_taken e.reply) refl (f r))
+    unmoved v f r = subst⁻¹ (λ views. Told M.means X r (taken_by r (H ++ (e ∷ []))) (views r)) v (still r (calls r e.asked && is_taken e.reply) refl (f r))
 
     -- one did
     moved : (p : ℕ) → ((r : ℕ) → calls r e.asked ≡ eqb r p) → Moved p → Told_then after.0.views
-    moved p c m r = subst⁻¹ (λ views. Told means X r (taken_by r (H ++ (e ∷ []))) (views r)) m.advances.views (go (eqb p r) (eqb_iff p r) (eqb r p) (eqb_iff r p) refl)
+    moved p c m r = subst⁻¹ (λ views. Told M.means X r (taken_by r (H ++ (e ∷ []))) (views r)) m.advances.views (go (eqb p r) (eqb_iff p r) (eqb r p) (eqb_iff r p) refl)
       where
         v : model.View
         v = st.views p
 
         go : (b : Bool) → (T b ↔ (p ≡ r)) → (b' : Bool) → (T b' ↔ (r ≡ p)) → eqb r p ≡ b'
-            → Told means X r (taken_by r (H ++ (e ∷ []))) (cond b (model.went_on (st.views p) m.advances.stage m.vs m.ns m.advances.machine) (st.views r))
+            → Told M.means X r (taken_by r (H ++ (e ∷ []))) (cond b (model.went_on (st.views p) m.advances.stage m.vs m.ns m.advances.machine) (st.views r))
         go true i true j q =
-            subst⁻¹ (λ l. Told means X r l (model.went_on (st.views p) m.advances.stage m.vs m.ns m.advances.machine))
+            subst⁻¹ (λ l. Told M.means X r l (model.went_on (st.views p) m.advances.stage m.vs m.ns m.advances.machine))
             (taken_more r H e ∙ ap (λ b. cond (b && is_taken e.reply) (taken_by r H ++ (e ∷ [])) (taken_by r H)) (c r ∙ q) ∙ ap (λ b. cond b (taken_by r H ++ (e ∷ [])) (taken_by r H)) m.taken)
-            (subst (λ k. Told means X k (taken_by k H ++ (e ∷ [])) (model.went_on (st.views p) m.advances.stage m.vs m.ns m.advances.machine)) (i.0 tt)
-            (told_on means X p acc cost st (a.attend p) m.turn m.vs m.ns after m.advances (taken_by p H) (a.tells p) e m.values m.numbers m.says))
+            (subst (λ k. Told M.means X k (taken_by k H ++ (e ∷ [])) (model.went_on (st.views p) m.advances.stage m.vs m.ns m.advances.machine)) (i.0 tt)
+            (told_on M.means X p acc cost st (a.attend p) m.turn m.vs m.ns after m.advances (taken_by p H) (a.tells p) e m.values m.numbers m.says))
         go true i false j q = absurd (j.1 (sym (i.0 tt)))
         go false i true j q = absurd (i.1 (sym (j.0 tt)))
         go false i false j q = still r (calls r e.asked && is_taken e.reply) refl (ap (λ b. b && is_taken e.reply) (c r ∙ q))
@@ -243,8 +251,8 @@ module _ {S : Type 0} (means : S → Meaning) (space : S → ℕ) (cost : Tree �
     maker_views (Err f) = refl
 
     -- a request that calls no run
-    outside_runs : (q : Request) → e.asked ≡ q → (call cost st (event_of X.roles (means e.before) e.earlier q)).0.views ≡ st.views → ((r : ℕ) → calls r q ≡ false) → Told_then after.0.views
-    outside_runs q k v f = unmoved (ap (λ x. (call cost st (event_of X.roles (means e.before) e.earlier x)).0.views) k ∙ v) (λ r. ap (λ b. b && is_taken e.reply) (ap (calls r) k ∙ f r))
+    outside_runs : (q : Request) → e.asked ≡ q → (call cost st (event_of X.roles (M.means e.before) e.earlier q)).0.views ≡ st.views → ((r : ℕ) → calls r q ≡ false) → Told_then after.0.views
+    outside_runs q k v f = unmoved (ap (λ x. (call cost st (event_of X.roles (M.means e.before) e.earlier x)).0.views) k ∙ v) (λ r. ap (λ b. b && is_taken e.reply) (ap (calls r) k ∙ f r))
 
     no_role : event e ≡ other → e.reply ≡ replies.NoRole → Told_then after.0.views
     no_role v y = unmoved (ap (λ x. (call cost st x).0.views) v) (λ r. and_none (calls r e.asked) (is_taken e.reply) (ap is_taken y))
@@ -260,12 +268,12 @@ module _ {S : Type 0} (means : S → Meaning) (space : S → ℕ) (cost : Tree �
     goes p turn vs ns z t = t_true (is_taken e.reply) (t.takes.0 (subst⁻¹ Taken z.answered tt))
 
     says_nothing : (turn : Turn → Bool) → ((t : Turn) → T (turn t) → T (to_say t) → ⊥) → (p : ℕ) (vs : List Tree) (ns : List ℕ) (z : Advances cost st p turn vs ns after)
-        → (d : Duty) → turn_of d ≡ z.stage.turn → told z.stage.turn (answer z.stage.actions z.machine.mem) ≡ said_in means X d e
+        → (d : Duty) → turn_of d ≡ z.stage.turn → told z.stage.turn (answer z.stage.actions z.machine.mem) ≡ said_in M.means X d e
     says_nothing turn f p vs ns z d q =
-        subst (λ t. told t (answer z.stage.actions z.machine.mem) ≡ said_in means X d e) q
-        (said_at means X d (answer z.stage.actions z.machine.mem) e (λ h. absurd (f (turn_of d) (subst⁻¹ (λ t. T (turn t)) q (at_turn p turn vs ns z)) h)))
+        subst (λ t. told t (answer z.stage.actions z.machine.mem) ≡ said_in M.means X d e) q
+        (said_at M.means X d (answer z.stage.actions z.machine.mem) e (λ h. absurd (f (turn_of d) (subst⁻¹ (λ t. T (turn t)) q (at_turn p turn vs ns z)) h)))
 
-    begin_told : (p : ℕ) (hs : List (Option Tree)) (ns : List ℕ) → ((r : ℕ) → calls r e.asked ≡ eqb r p) → valid (values_in means e) ≡ valid hs → ns ≡ numbers_in e.asked
+    begin_told : (p : ℕ) (hs : List (Option Tree)) (ns : List ℕ) → ((r : ℕ) → calls r e.asked ≡ eqb r p) → valid (values_in M.means e) ≡ valid hs → ns ≡ numbers_in e.asked
         → event e ≡ begin p hs ns → Tells after.1 e.reply → Told_then after.0.views
     begin_told p hs ns c values numbers v t =
         go (subst⁻¹ (λ x. (Advances cost st p to_begin (valid hs) ns (call cost st x) × T (model.counts_right (st.views p).ahead hs ns)) ⊎ Stays cost st p (call cost st x)) v (begin_turns cost st p hs ns))
@@ -287,9 +295,9 @@ module _ {S : Type 0} (means : S → Meaning) (space : S → ℕ) (cost : Tree �
         })
           where
             place : Place X (X.party p) nobody_yet (duties X p) (length (taken_by p H)) z.stage
-            place = here means X p acc cost st (a.attend p) to_begin (valid hs) ns after z (taken_by p H) (a.tells p) e
+            place = here M.means X p acc cost st (a.attend p) to_begin (valid hs) ns after z (taken_by p H) (a.tells p) e
 
-    hear_told : (p : ℕ) (h : Option Tree) → ((r : ℕ) → calls r e.asked ≡ eqb r p) → valid (values_in means e) ≡ valid (h ∷ []) → numbers_in e.asked ≡ []
+    hear_told : (p : ℕ) (h : Option Tree) → ((r : ℕ) → calls r e.asked ≡ eqb r p) → valid (values_in M.means e) ≡ valid (h ∷ []) → numbers_in e.asked ≡ []
         → event e ≡ hear p h → Tells after.1 e.reply → Told_then after.0.views
     hear_told p h c values numbers v t =
         go (subst⁻¹ (λ x. Advances cost st p to_hear (valid (h ∷ [])) (st.views p).numbers (call cost st x) ⊎ Stays cost st p (call cost st x)) v (hear_turns cost st p h))
@@ -307,13 +315,13 @@ module _ {S : Type 0} (means : S → Meaning) (space : S → ℕ) (cost : Tree �
           taken = goes p to_hear (valid (h ∷ [])) (st.views p).numbers z t;
         })
 
-    say_told : (p : ℕ) → ((r : ℕ) → calls r e.asked ≡ eqb r p) → valid (values_in means e) ≡ [] → numbers_in e.asked ≡ []
-        → event e ≡ say p → SaidSo (means e.after) after.1 e.reply → Told_then after.0.views
+    say_told : (p : ℕ) → ((r : ℕ) → calls r e.asked ≡ eqb r p) → valid (values_in M.means e) ≡ [] → numbers_in e.asked ≡ []
+        → event e ≡ say p → SaidSo (M.means e.after) after.1 e.reply → Told_then after.0.views
     say_told p c values numbers v y =
         go (subst⁻¹ (λ x. Advances cost st p to_say [] (st.views p).numbers (call cost st x) ⊎ Stays cost st p (call cost st x)) v (say_turns cost st p))
       where
         t : Tells after.1 e.reply
-        t = told_tells (means e.after) after.1 e.reply y
+        t = told_tells (M.means e.after) after.1 e.reply y
 
         go : Advances cost st p to_say [] (st.views p).numbers after ⊎ Stays cost st p after → Told_then after.0.views
         go (inr z) = stays p z t
@@ -325,37 +333,37 @@ module _ {S : Type 0} (means : S → Meaning) (space : S → ℕ) (cost : Tree �
           values = values;
           numbers = inl (refl, numbers);
           says = λ d q.
-              subst (λ t. told t (answer z.stage.actions z.machine.mem) ≡ said_in means X d e) q
-              (said_at means X d (answer z.stage.actions z.machine.mem) e (λ h. say_value (means e.after) (answer z.stage.actions z.machine.mem) y.0 e.reply (sym z.answered ∙ y.1) y.2));
+              subst (λ t. told t (answer z.stage.actions z.machine.mem) ≡ said_in M.means X d e) q
+              (said_at M.means X d (answer z.stage.actions z.machine.mem) e (λ h. say_value (M.means e.after) (answer z.stage.actions z.machine.mem) y.0 e.reply (sym z.answered ∙ y.1) y.2));
           taken = goes p to_say [] (st.views p).numbers z t;
         })
 
     tells_then : (q : Request) → e.asked ≡ q → Answers q → Told_then after.0.views
-    tells_then (Begin p given numbers) k y = go (ltb p X.roles) (ap (λ x. event_of X.roles (means e.before) e.earlier x) k) y
+    tells_then (Begin p given numbers) k y = go (ltb p X.roles) (ap (λ x. event_of X.roles (M.means e.before) e.earlier x) k) y
       where
-        go : (b : Bool) → event e ≡ cond b (begin p (values_at (means e.before) e.earlier (Begin p given numbers)) (vec_items numbers)) other
+        go : (b : Bool) → event e ≡ cond b (begin p (values_at (M.means e.before) e.earlier (Begin p given numbers)) (vec_items numbers)) other
             → cond b (Took after.1 e.reply × Untouched e.before e.after e.reply) ((e.after ≡ e.before) × (e.reply ≡ replies.NoRole)) → Told_then after.0.views
-        go true v z = begin_told p (values_at (means e.before) e.earlier (Begin p given numbers)) (vec_items numbers) (λ r. ap (calls r) k)
-            (ap (λ x. valid (values_at (means e.before) e.earlier x)) k) (sym (ap numbers_in k)) v (took_tells after.1 e.reply z.0)
+        go true v z = begin_told p (values_at (M.means e.before) e.earlier (Begin p given numbers)) (vec_items numbers) (λ r. ap (calls r) k)
+            (ap (λ x. valid (values_at (M.means e.before) e.earlier x)) k) (sym (ap numbers_in k)) v (took_tells after.1 e.reply z.0)
         go false v z = no_role v z.1
-    tells_then (Say p) k y = go (ltb p X.roles) (ap (λ x. event_of X.roles (means e.before) e.earlier x) k) y
+    tells_then (Say p) k y = go (ltb p X.roles) (ap (λ x. event_of X.roles (M.means e.before) e.earlier x) k) y
       where
         go : (b : Bool) → event e ≡ cond b (say p) other
-            → cond b (SaidSo (means e.after) after.1 e.reply × Untouched e.before e.after e.reply) ((e.after ≡ e.before) × (e.reply ≡ replies.NoRole)) → Told_then after.0.views
-        go true v z = say_told p (λ r. ap (calls r) k) (ap (λ x. valid (values_at (means e.before) e.earlier x)) k) (ap numbers_in k) v z.0
+            → cond b (SaidSo (M.means e.after) after.1 e.reply × Untouched e.before e.after e.reply) ((e.after ≡ e.before) × (e.reply ≡ replies.NoRole)) → Told_then after.0.views
+        go true v z = say_told p (λ r. ap (calls r) k) (ap (λ x. valid (values_at (M.means e.before) e.earlier x)) k) (ap numbers_in k) v z.0
         go false v z = no_role v z.1
-    tells_then (Hear p h) k y = go (ltb p X.roles) (ap (λ x. event_of X.roles (means e.before) e.earlier x) k) y
+    tells_then (Hear p h) k y = go (ltb p X.roles) (ap (λ x. event_of X.roles (M.means e.before) e.earlier x) k) y
       where
-        go : (b : Bool) → event e ≡ cond b (hear p (as_option (means e.before (handle_of e.earlier h)))) other
+        go : (b : Bool) → event e ≡ cond b (hear p (as_option (M.means e.before (handle_of e.earlier h)))) other
             → cond b (Took after.1 e.reply × Untouched e.before e.after e.reply) ((e.after ≡ e.before) × (e.reply ≡ replies.NoRole)) → Told_then after.0.views
-        go true v z = hear_told p (as_option (means e.before (handle_of e.earlier h))) (λ r. ap (calls r) k)
-            (ap (λ x. valid (values_at (means e.before) e.earlier x)) k) (ap numbers_in k) v (took_tells after.1 e.reply z.0)
+        go true v z = hear_told p (as_option (M.means e.before (handle_of e.earlier h))) (λ r. ap (calls r) k)
+            (ap (λ x. valid (values_at (M.means e.before) e.earlier x)) k) (ap numbers_in k) v (took_tells after.1 e.reply z.0)
         go false v z = no_role v z.1
     tells_then (Register r n) k y = outside_runs (Register r n) k refl (λ r. refl)
     tells_then (Atom n) k y = outside_runs (Atom n) k (build_views (leaf n)) (λ r. refl)
-    tells_then (Tuple parts) k y = outside_runs (Tuple parts) k (maker_views (wanted (means e.before) tupled (handles_of e.earlier (vec_items parts)))) (λ r. refl)
-    tells_then (Crypt text key) k y = outside_runs (Crypt text key) k (maker_views (wanted (means e.before) crypted (handle_of e.earlier text ∷ handle_of e.earlier key ∷ []))) (λ r. refl)
-    tells_then (Apply f parts) k y = outside_runs (Apply f parts) k (maker_views (wanted (means e.before) (applied f) (handles_of e.earlier (vec_items parts)))) (λ r. refl)
+    tells_then (Tuple parts) k y = outside_runs (Tuple parts) k (maker_views (wanted (M.means e.before) tupled (handles_of e.earlier (vec_items parts)))) (λ r. refl)
+    tells_then (Crypt text key) k y = outside_runs (Crypt text key) k (maker_views (wanted (M.means e.before) crypted (handle_of e.earlier text ∷ handle_of e.earlier key ∷ []))) (λ r. refl)
+    tells_then (Apply f parts) k y = outside_runs (Apply f parts) k (maker_views (wanted (M.means e.before) (applied f) (handles_of e.earlier (vec_items parts)))) (λ r. refl)
     tells_then (Shape h) k y = outside_runs (Shape h) k refl (λ r. refl)
     tells_then (Part h i) k y = outside_runs (Part h i) k refl (λ r. refl)
     tells_then (Unlock h i) k y = outside_runs (Unlock h i) k refl (λ r. refl)
@@ -365,6 +373,7 @@ module _ {S : Type 0} (means : S → Meaning) (space : S → ℕ) (cost : Tree �
     pub at_next : At (H ++ (e ∷ [])) e.after e.runs_after after.0
     at_next = record {
       many = moves.many ∙ a.many;
+      priced = moves.priced ∙ priced_here;
       stands = stands_then;
       attend = call_attends X cost st (event e) a.attend;
       shaped = call_shaped cost st a.shaped (event e);

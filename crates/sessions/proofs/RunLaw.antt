@@ -22,6 +22,7 @@ use Rattle.model.proofs.Standing.{term_known}
 use Rattle.model.proofs.Grounds.{held_every}
 use Rattle.store.specs.declared.fault.StoreFault.{StoreFault}
 use Rattle.store.specs.Makers.{wanted, Makes}
+use Rattle.store.specs.Semantics.{Semantics}
 use Rattle.run.specs.declared.run.Run.{Run}
 use Rattle.run.specs.Shown.{Meaning, Small, as_option, register, StandsFor}
 use Rattle.sessions.specs.declared.reply.Reply.TheVariants as replies
@@ -40,52 +41,52 @@ use Rattle.sessions.proofs.Naming.{given_once}
 use Rattle.sessions.proofs.Observing.{At, event, replied, at_start, at_next}
 use Rattle.sessions.proofs.Obeying.{begins_same, all_names, stock_same, turn_of_duty, begin_of_turn, hear_of_turn, begin_is, say_is, hear_is, decided, is_role}
 
-module _ {S : Type 0} (means : S → Meaning) (space : S → ℕ) (cost : Tree → ℕ) (small : (s : S) → Small (means s)) (X : Specification) (acc : Accepted X) where
+module _ {S : Type 0} (M : Semantics S) (cost : Tree → ℕ) (small : (s : S) → Small (M.means s)) (X : Specification) (acc : Accepted X) where
   abbrev Now : List (Step S) → S → List Run → State → Type 0
-  Now H s runs st = At means space cost small X acc H s runs st
+  Now H s runs st = At M cost small X acc H s runs st
 
   abbrev events : List (Step S) → List Event
-  events H = map (event means space cost small X acc) H
+  events H = map (event M cost small X acc) H
 
   -- where all steps lead
-  at_end : (es H : List (Step S)) (s : S) (runs : List Run) (st : State) (s' : S) (runs' : List Run) → Now H s runs st → Happened means space cost s runs es s' runs'
+  at_end : (es H : List (Step S)) (s : S) (runs : List Run) (st : State) (s' : S) (runs' : List Run) → Now H s runs st → Happened M s runs es s' runs'
       → Now (H ++ es) s' runs' (sessions.after cost st (events es))
   at_end [] H s runs st s' runs' a h =
       subst⁻¹ (λ l. Now l s' runs' st) (append-nil H) (subst⁻¹ (λ z. Now H z runs' st) h.0 (subst⁻¹ (λ z. Now H s z st) h.1 a))
   at_end (e ∷ es) H s runs st s' runs' a h =
-      subst (λ l. Now l s' runs' (sessions.after cost (call cost st (event means space cost small X acc e)).0 (events es))) (append_assoc H (e ∷ []) es)
-      (at_end es (H ++ (e ∷ [])) e.after e.runs_after (call cost st (event means space cost small X acc e)).0 s' runs' (at_next means space cost small X acc H s runs st a e h.0) h.1)
+      subst (λ l. Now l s' runs' (sessions.after cost (call cost st (event M cost small X acc e)).0 (events es))) (append_assoc H (e ∷ []) es)
+      (at_end es (H ++ (e ∷ [])) e.after e.runs_after (call cost st (event M cost small X acc e)).0 s' runs' (at_next M cost small X acc H s runs st a e h.0) h.1)
 
   -- something of each step that follows from where it is made
   module _ (Q : List (Step S) → Step S → Type 0) where
-    along : ((H : List (Step S)) (s : S) (runs : List Run) (st : State) → Now H s runs st → (e : Step S) → Did means space cost s runs e → Q H e)
-        → (es H : List (Step S)) (s : S) (runs : List Run) (st : State) (s' : S) (runs' : List Run) → Now H s runs st → Happened means space cost s runs es s' runs'
-        → Along means space cost X Q H es
+    along : ((H : List (Step S)) (s : S) (runs : List Run) (st : State) → Now H s runs st → (e : Step S) → Did M s runs e → Q H e)
+        → (es H : List (Step S)) (s : S) (runs : List Run) (st : State) (s' : S) (runs' : List Run) → Now H s runs st → Happened M s runs es s' runs'
+        → Along M X Q H es
     along f [] H s runs st s' runs' a h = tt
     along f (e ∷ es) H s runs st s' runs' a h = (
       f H s runs st a e h.0,
-      along f es (H ++ (e ∷ [])) e.after e.runs_after (call cost st (event means space cost small X acc e)).0 s' runs' (at_next means space cost small X acc H s runs st a e h.0) h.1,
+      along f es (H ++ (e ∷ [])) e.after e.runs_after (call cost st (event M cost small X acc e)).0 s' runs' (at_next M cost small X acc H s runs st a e h.0) h.1,
     )
 
     module _ (Z : State → Event → Type 0) where
       -- from what was observed to the model
-      along_to : ((H : List (Step S)) (s : S) (runs : List Run) (st : State) → Now H s runs st → (e : Step S) → Did means space cost s runs e → Q H e → Z st (event means space cost small X acc e))
-          → (es H : List (Step S)) (s : S) (runs : List Run) (st : State) (s' : S) (runs' : List Run) → Now H s runs st → Happened means space cost s runs es s' runs'
-          → Along means space cost X Q H es → model.Along cost Z st (events es)
+      along_to : ((H : List (Step S)) (s : S) (runs : List Run) (st : State) → Now H s runs st → (e : Step S) → Did M s runs e → Q H e → Z st (event M cost small X acc e))
+          → (es H : List (Step S)) (s : S) (runs : List Run) (st : State) (s' : S) (runs' : List Run) → Now H s runs st → Happened M s runs es s' runs'
+          → Along M X Q H es → model.Along cost Z st (events es)
       along_to f [] H s runs st s' runs' a h w = tt
       along_to f (e ∷ es) H s runs st s' runs' a h w = (
         f H s runs st a e h.0 w.0,
-        along_to f es (H ++ (e ∷ [])) e.after e.runs_after (call cost st (event means space cost small X acc e)).0 s' runs' (at_next means space cost small X acc H s runs st a e h.0) h.1 w.1,
+        along_to f es (H ++ (e ∷ [])) e.after e.runs_after (call cost st (event M cost small X acc e)).0 s' runs' (at_next M cost small X acc H s runs st a e h.0) h.1 w.1,
       )
 
       -- and back
-      along_from : ((H : List (Step S)) (s : S) (runs : List Run) (st : State) → Now H s runs st → (e : Step S) → Did means space cost s runs e → Z st (event means space cost small X acc e) → Q H e)
-          → (es H : List (Step S)) (s : S) (runs : List Run) (st : State) (s' : S) (runs' : List Run) → Now H s runs st → Happened means space cost s runs es s' runs'
-          → model.Along cost Z st (events es) → Along means space cost X Q H es
+      along_from : ((H : List (Step S)) (s : S) (runs : List Run) (st : State) → Now H s runs st → (e : Step S) → Did M s runs e → Z st (event M cost small X acc e) → Q H e)
+          → (es H : List (Step S)) (s : S) (runs : List Run) (st : State) (s' : S) (runs' : List Run) → Now H s runs st → Happened M s runs es s' runs'
+          → model.Along cost Z st (events es) → Along M X Q H es
       along_from f [] H s runs st s' runs' a h w = tt
       along_from f (e ∷ es) H s runs st s' runs' a h w = (
         f H s runs st a e h.0 w.0,
-        along_from f es (H ++ (e ∷ [])) e.after e.runs_after (call cost st (event means space cost small X acc e)).0 s' runs' (at_next means space cost small X acc H s runs st a e h.0) h.1 w.1,
+        along_from f es (H ++ (e ∷ [])) e.after e.runs_after (call cost st (event M cost small X acc e)).0 s' runs' (at_next M cost small X acc H s runs st a e h.0) h.1 w.1,
       )
 
   -- what a register's handle names is the value in the memory
@@ -101,25 +102,25 @@ module _ {S : Type 0} (means : S → Meaning) (space : S → ℕ) (cost : Tree �
       inj e = cc
 
   module _ (H : List (Step S)) (s : S) (runs : List Run) (st : State) (a : Now H s runs st) where
-    pub derived : Derived means space cost X H s runs
+    pub derived : Derived M X H s runs
     derived = record {
       in_registers = λ A kept r q run v l e.
-          subst (λ z. Deducible A (X.party r) (ValueOf z) v) (stock_same means space cost small X acc H s runs st a r)
-          ((a.attend r).stands.values A ((a.attend r).counts A kept).0.acts q v (value_in (means s) (small s) (register (get_or runs r run).registers q) ((st.views r).memory q) ((a.stands.each r run l).memory q) v e));
+          subst (λ z. Deducible A (X.party r) (ValueOf z) v) (stock_same M cost small X acc H s runs st a r)
+          ((a.attend r).stands.values A ((a.attend r).counts A kept).0.acts q v (value_in (M.means s) (small s) (register (get_or runs r run).registers q) ((st.views r).memory q) ((a.stands.each r run l).memory q) v e));
       in_says = λ A kept r.
-          subst (λ z. Every (λ p. Deducible A (X.party r) (ValueOf (stock means X r H)) p.1) z) (a.tells r).said
-          (subst (λ z. Every (λ p. Deducible A (X.party r) (ValueOf z) p.1) (st.views r).said) (stock_same means space cost small X acc H s runs st a r) ((a.attend r).says A kept));
+          subst (λ z. Every (λ p. Deducible A (X.party r) (ValueOf (stock M.means X r H)) p.1) z) (a.tells r).said
+          (subst (λ z. Every (λ p. Deducible A (X.party r) (ValueOf z) p.1) (st.views r).said) (stock_same M cost small X acc H s runs st a r) ((a.attend r).says A kept));
     }
 
-    in_register : (r i : ℕ) (run : Run) (v : Tree) → r < length runs → (st.views r).memory i ≡ some v → means s (register (get_or runs r run).registers i) ≡ Some v
-    in_register r i run v l = handle_of_value (means s) (register (get_or runs r run).registers i) ((st.views r).memory i) ((a.stands.each r run l).memory i) v
+    in_register : (r i : ℕ) (run : Run) (v : Tree) → r < length runs → (st.views r).memory i ≡ some v → M.means s (register (get_or runs r run).registers i) ≡ Some v
+    in_register r i run v l = handle_of_value (M.means s) (register (get_or runs r run).registers i) ((st.views r).memory i) ((a.stands.each r run l).memory i) v
 
-    pub holding : Holding means space cost X H s runs
+    pub holding : Holding M X H s runs
     holding = record {
       known = λ r t h.
           let v = a.attend r in
           subst (λ l. Has l t) (sym v.knows ∙ (a.tells r).known)
-          (term_known (X.party r) v.role v.sheet (st.views r).memory (st.views r).holdings v.stands t (subst⁻¹ (λ z. TermOf z t) (stock_same means space cost small X acc H s runs st a r) h));
+          (term_known (X.party r) v.role v.sheet (st.views r).memory (st.views r).holdings v.stands t (subst⁻¹ (λ z. TermOf z t) (stock_same M cost small X acc H s runs st a r) h));
       filled = λ r i run t l h.
           let v = a.attend r in
           let e = held_every (λ u k. v.sheet k ≡ some u) v.role.known v.stands.good.entries t i (subst⁻¹ (λ k. Held k t i) (sym v.knows ∙ (a.tells r).known) h) in
@@ -127,40 +128,40 @@ module _ {S : Type 0} (means : S → Meaning) (space : S → ℕ) (cost : Tree �
           (w.0, in_register r i run w.0 l w.1);
     }
 
-    all_read : (R : Tree → Tree) → model.AllRead R st → AllRead means space cost X R H s runs
+    all_read : (R : Tree → Tree) → model.AllRead R st → AllRead M X R H s runs
     all_read R f r i run t l h =
         in_register r i run (R t) l
         (every_some (λ (e : Entry). (st.views r).memory e.at ≡ some (R e.term)) (λ (e : Entry). (t ≡ e.term) × (i ≡ e.at)) ((st.views r).memory i ≡ some (R t))
         (λ e x y. ap (st.views r).memory y.1 ∙ x ∙ ap (λ u. some (R u)) (sym y.0)) (st.views r).known (f r)
         (subst⁻¹ (λ k. Held k t i) (a.tells r).known h))
 
-    all_share : model.AllShare st → AllShare means space cost X H s runs
+    all_share : model.AllShare st → AllShare M X H s runs
     all_share f r q i j run t l k h g =
         let z = f r q t i j (subst⁻¹ (λ k. Held k t i) (a.tells r).known h) (subst⁻¹ (λ k. Held k t j) (a.tells q).known g) in
         (z.0, in_register r i run z.0 l z.1, in_register q j run z.0 k z.2)
 
   -- one step as an event, by its kind
-  module _ (H : List (Step S)) (s : S) (runs : List Run) (st : State) (a : Now H s runs st) (e : Step S) (d : Did means space cost s runs e) where
+  module _ (H : List (Step S)) (s : S) (runs : List Run) (st : State) (a : Now H s runs st) (e : Step S) (d : Did M s runs e) where
     abbrev ev : Event
-    ev = event means space cost small X acc e
+    ev = event M cost small X acc e
 
     abbrev Answers : Request → Type 0
-    Answers q = Replies means space cost X.roles (λ k. (st.views k).memory) (call cost st ev).1 e.earlier e.before e.after q e.reply
+    Answers q = Replies M X.roles (λ k. (st.views k).memory) (call cost st ev).1 e.earlier e.before e.after q e.reply
 
     module _ (Z : Event → Type 0) (outside : Z other)
-        (built : (v : Tree) → T (to_build e.asked) → Made means space cost e.before e.after (Ok v) e.reply → Z (build v))
-        (begun : (p : ℕ) (hs : Vec Handle Global) (ns : Vec ℕ Global) → e.asked ≡ Begin p hs ns → p < X.roles → Z (begin p (values_in means e) (vec_items ns)))
+        (built : (v : Tree) → T (to_build e.asked) → Made M e.before e.after (Ok v) e.reply → Z (build v))
+        (begun : (p : ℕ) (hs : Vec Handle Global) (ns : Vec ℕ Global) → e.asked ≡ Begin p hs ns → p < X.roles → Z (begin p (values_in M.means e) (vec_items ns)))
         (said : (p : ℕ) → e.asked ≡ Say p → p < X.roles → Z (say p))
-        (heard : (p : ℕ) (h : Handle) → e.asked ≡ Hear p h → p < X.roles → Z (hear p (as_option (means e.before (handle_of e.earlier h))))) where
-      made : (q : Request) → e.asked ≡ q → T (to_build q) → (w : Result Tree StoreFault) → Made means space cost e.before e.after w e.reply → Z (of_maker w)
+        (heard : (p : ℕ) (h : Handle) → e.asked ≡ Hear p h → p < X.roles → Z (hear p (as_option (M.means e.before (handle_of e.earlier h))))) where
+      made : (q : Request) → e.asked ≡ q → T (to_build q) → (w : Result Tree StoreFault) → Made M e.before e.after w e.reply → Z (of_maker w)
       made q k t (Ok v) m = built v (subst⁻¹ (λ x. T (to_build x)) k t) m
       made q k t (Err f) m = outside
 
-      by_kind : (q : Request) → e.asked ≡ q → Answers q → Z (event_of X.roles (means e.before) e.earlier q)
+      by_kind : (q : Request) → e.asked ≡ q → Answers q → Z (event_of X.roles (M.means e.before) e.earlier q)
       by_kind (Begin p hs ns) k y = go (ltb p X.roles) refl
         where
-          go : (b : Bool) → ltb p X.roles ≡ b → Z (cond b (begin p (values_at (means e.before) e.earlier (Begin p hs ns)) (vec_items ns)) other)
-          go true i = subst (λ q. Z (begin p (values_at (means e.before) e.earlier q) (vec_items ns))) k (begun p hs ns k (ltb-true p X.roles i))
+          go : (b : Bool) → ltb p X.roles ≡ b → Z (cond b (begin p (values_at (M.means e.before) e.earlier (Begin p hs ns)) (vec_items ns)) other)
+          go true i = subst (λ q. Z (begin p (values_at (M.means e.before) e.earlier q) (vec_items ns))) k (begun p hs ns k (ltb-true p X.roles i))
           go false i = outside
       by_kind (Say p) k y = go (ltb p X.roles) refl
         where
@@ -169,14 +170,14 @@ module _ {S : Type 0} (means : S → Meaning) (space : S → ℕ) (cost : Tree �
           go false i = outside
       by_kind (Hear p h) k y = go (ltb p X.roles) refl
         where
-          go : (b : Bool) → ltb p X.roles ≡ b → Z (cond b (hear p (as_option (means e.before (handle_of e.earlier h)))) other)
+          go : (b : Bool) → ltb p X.roles ≡ b → Z (cond b (hear p (as_option (M.means e.before (handle_of e.earlier h)))) other)
           go true i = heard p h k (ltb-true p X.roles i)
           go false i = outside
       by_kind (Register r n) k y = outside
       by_kind (Atom n) k y = built (leaf n) (subst⁻¹ (λ x. T (to_build x)) k tt) y
-      by_kind (Tuple parts) k y = made (Tuple parts) k tt (wanted (means e.before) tupled (handles_of e.earlier (vec_items parts))) y
-      by_kind (Crypt text key) k y = made (Crypt text key) k tt (wanted (means e.before) crypted (handle_of e.earlier text ∷ handle_of e.earlier key ∷ [])) y
-      by_kind (Apply f parts) k y = made (Apply f parts) k tt (wanted (means e.before) (applied f) (handles_of e.earlier (vec_items parts))) y
+      by_kind (Tuple parts) k y = made (Tuple parts) k tt (wanted (M.means e.before) tupled (handles_of e.earlier (vec_items parts))) y
+      by_kind (Crypt text key) k y = made (Crypt text key) k tt (wanted (M.means e.before) crypted (handle_of e.earlier text ∷ handle_of e.earlier key ∷ [])) y
+      by_kind (Apply f parts) k y = made (Apply f parts) k tt (wanted (M.means e.before) (applied f) (handles_of e.earlier (vec_items parts))) y
       by_kind (Shape h) k y = outside
       by_kind (Part h i) k y = outside
       by_kind (Unlock h i) k y = outside
@@ -184,33 +185,36 @@ module _ {S : Type 0} (means : S → Meaning) (space : S → ℕ) (cost : Tree �
       by_kind Space k y = outside
 
       pub by_event : Z ev
-      by_event = by_kind e.asked refl (replied means space cost small X acc H s runs st a e d)
+      by_event = by_kind e.asked refl (replied M cost small X acc H s runs st a e d)
 
-    start_to : (ρ : ℕ → Tree) → StartsFrom means space cost X ρ H e → model.StartsFrom X ρ st ev
+    start_to : (ρ : ℕ → Tree) → StartsFrom M X ρ H e → model.StartsFrom X ρ st ev
     start_to ρ w = by_event (model.StartsFrom X ρ st) tt (λ v t m. tt) begun (λ p k l. tt) (λ p h k l. tt)
       where
-        begun : (p : ℕ) (hs : Vec Handle Global) (ns : Vec ℕ Global) → e.asked ≡ Begin p hs ns → p < X.roles → model.StartsFrom X ρ st (begin p (values_in means e) (vec_items ns))
+        begun : (p : ℕ) (hs : Vec Handle Global) (ns : Vec ℕ Global) → e.asked ≡ Begin p hs ns → p < X.roles → model.StartsFrom X ρ st (begin p (values_in M.means e) (vec_items ns))
         begun p hs ns k l t =
-            let z = w p hs ns k (begin_of_turn means space cost small X acc H s runs st a p t) in
+            let z = w p hs ns k (begin_of_turn M cost small X acc H s runs st a p t) in
             (z.0 ∙ ap (map (λ t. some (reading_of ρ t))) (sym (given_once (X.party p) (X.knows p))), z.1 ∙ ap (map ρ) (sym (all_names X acc p)))
 
-    arrive_to : AsSaid means space cost X H e → model.AsSaid st ev
+    arrive_to : AsSaid M X H e → model.AsSaid st ev
     arrive_to w = by_event (model.AsSaid st) tt (λ v t m. tt) (λ p hs ns k l. tt) (λ p k l. tt) heard
       where
-        heard : (p : ℕ) (h : Handle) → e.asked ≡ Hear p h → p < X.roles → model.AsSaid st (hear p (as_option (means e.before (handle_of e.earlier h))))
+        heard : (p : ℕ) (h : Handle) → e.asked ≡ Hear p h → p < X.roles → model.AsSaid st (hear p (as_option (M.means e.before (handle_of e.earlier h))))
         heard p h k i l t =
-            let z = w p l h k (hear_of_turn means space cost small X acc H s runs st a p l t) in
+            let z = w p l h k (hear_of_turn M cost small X acc H s runs st a p l t) in
             (z.0, ap as_option z.1, z.2, subst⁻¹ (SomeOf (λ p. (p.0 ≡ l) × (p.1 ≡ z.0))) (a.tells z.2).said z.3)
 
-    free_is : st.space ≡ space e.before
-    free_is = a.stands.space ∙ ap space (sym d.before)
+    free_is : st.space ≡ M.space e.before
+    free_is = a.stands.space ∙ ap M.space (sym d.before)
 
-    unbuilt_to : Unbuilt means space cost X e → model.Unbuilt cost st ev
+    priced_is : M.cost e.before ≡ cost
+    priced_is = ap M.cost d.before ∙ a.priced
+
+    unbuilt_to : Unbuilt M X e → model.Unbuilt cost st ev
     unbuilt_to u = by_event (model.Unbuilt cost st) tt (λ v t m. go v t m.0 m.1 m.2) (λ p hs ns k l. tt) (λ p k l. tt) (λ p h k l. tt)
       where
-        go : (v : Tree) → T (to_build e.asked) → (x : Result ℕ StoreFault) → Makes means space cost e.before e.after (Ok v) x → e.reply ≡ reply_by replies.Handle x → st.space < cost v
+        go : (v : Tree) → T (to_build e.asked) → (x : Result ℕ StoreFault) → Makes M e.before e.after (Ok v) x → e.reply ≡ reply_by replies.Handle x → st.space < cost v
         go v t (Ok h) m y = absurd (u h t y)
-        go v t (Err f) m y = let b = m.2 in let q = free_is in omega arith
+        go v t (Err f) m y = let b = m.2 in let q = free_is in let c = ap (λ p. p v) priced_is in omega arith
 
     -- a begin in turn
     abbrev starts : Event → Bool
@@ -224,10 +228,10 @@ module _ {S : Type 0} (means : S → Meaning) (space : S → ℕ) (cost : Tree �
     maker_starts (Ok v) = refl
     maker_starts (Err f) = refl
 
-    starts_kind : (q : Request) → starts (event_of X.roles (means e.before) e.earlier q) ≡ to_start means space cost X H q
+    starts_kind : (q : Request) → starts (event_of X.roles (M.means e.before) e.earlier q) ≡ to_start M X H q
     starts_kind (Begin p hs ns) = go (ltb p X.roles) refl
       where
-        go : (b : Bool) → ltb p X.roles ≡ b → starts (cond b (begin p (values_at (means e.before) e.earlier (Begin p hs ns)) (vec_items ns)) other) ≡ (b && eqb (length (taken_by p H)) 0)
+        go : (b : Bool) → ltb p X.roles ≡ b → starts (cond b (begin p (values_at (M.means e.before) e.earlier (Begin p hs ns)) (vec_items ns)) other) ≡ (b && eqb (length (taken_by p H)) 0)
         go true i = ap begins_next (a.tells p).ahead ∙ begins_same X acc p (taken_by p H) ∙ ap (λ b. b && eqb (length (taken_by p H)) 0) i
         go false i = refl
     starts_kind (Say p) = go (ltb p X.roles)
@@ -237,14 +241,14 @@ module _ {S : Type 0} (means : S → Meaning) (space : S → ℕ) (cost : Tree �
         go false = refl
     starts_kind (Hear p h) = go (ltb p X.roles)
       where
-        go : (b : Bool) → starts (cond b (hear p (as_option (means e.before (handle_of e.earlier h)))) other) ≡ false
+        go : (b : Bool) → starts (cond b (hear p (as_option (M.means e.before (handle_of e.earlier h)))) other) ≡ false
         go true = refl
         go false = refl
     starts_kind (Register r n) = refl
     starts_kind (Atom n) = refl
-    starts_kind (Tuple parts) = maker_starts (wanted (means e.before) tupled (handles_of e.earlier (vec_items parts)))
-    starts_kind (Crypt text key) = maker_starts (wanted (means e.before) crypted (handle_of e.earlier text ∷ handle_of e.earlier key ∷ []))
-    starts_kind (Apply f parts) = maker_starts (wanted (means e.before) (applied f) (handles_of e.earlier (vec_items parts)))
+    starts_kind (Tuple parts) = maker_starts (wanted (M.means e.before) tupled (handles_of e.earlier (vec_items parts)))
+    starts_kind (Crypt text key) = maker_starts (wanted (M.means e.before) crypted (handle_of e.earlier text ∷ handle_of e.earlier key ∷ []))
+    starts_kind (Apply f parts) = maker_starts (wanted (M.means e.before) (applied f) (handles_of e.earlier (vec_items parts)))
     starts_kind (Shape h) = refl
     starts_kind (Part h i) = refl
     starts_kind (Unlock h i) = refl
@@ -261,19 +265,19 @@ module _ {S : Type 0} (means : S → Meaning) (space : S → ℕ) (cost : Tree �
     suffices_first R other xs h = h
 
     -- a call in turn that the model takes is taken
-    not_refused_from : model.NotRefused cost st ev → NotRefused means space cost X H e
+    not_refused_from : model.NotRefused cost st ev → NotRefused M X H e
     not_refused_from w = go e.asked refl
       where
-        go : (q : Request) → e.asked ≡ q → InTurn means space cost X H q → T (is_taken e.reply)
+        go : (q : Request) → e.asked ≡ q → InTurn M X H q → T (is_taken e.reply)
         go (Begin p hs ns) k i =
-            let z = begin_is means space cost small X acc H s runs st a e d p hs ns k (is_role X p (taken_by p H) (to_do (X.knows p)) i) in
-            z.1.takes.0 (subst⁻¹ (λ x. model.Taken (call cost st x).1) z.0 (subst (model.NotRefused cost st) z.0 w (turn_of_duty means space cost small X acc H s runs st a p (to_do (X.knows p)) i)))
+            let z = begin_is M cost small X acc H s runs st a e d p hs ns k (is_role X p (taken_by p H) (to_do (X.knows p)) i) in
+            z.1.takes.0 (subst⁻¹ (λ x. model.Taken (call cost st x).1) z.0 (subst (model.NotRefused cost st) z.0 w (turn_of_duty M cost small X acc H s runs st a p (to_do (X.knows p)) i)))
         go (Say p) k (l, mk, i) =
-            let z = say_is means space cost small X acc H s runs st a e d p k (is_role X p (taken_by p H) (speak l mk) i) in
-            z.1.takes.0 (subst⁻¹ (λ x. model.Taken (call cost st x).1) z.0 (subst (model.NotRefused cost st) z.0 w l (turn_of_duty means space cost small X acc H s runs st a p (speak l mk) i)))
+            let z = say_is M cost small X acc H s runs st a e d p k (is_role X p (taken_by p H) (speak l mk) i) in
+            z.1.takes.0 (subst⁻¹ (λ x. model.Taken (call cost st x).1) z.0 (subst (model.NotRefused cost st) z.0 w l (turn_of_duty M cost small X acc H s runs st a p (speak l mk) i)))
         go (Hear p h) k (l, i) =
-            let z = hear_is means space cost small X acc H s runs st a e d p h k (is_role X p (taken_by p H) (listen l) i) in
-            z.1.takes.0 (subst⁻¹ (λ x. model.Taken (call cost st x).1) z.0 (subst (model.NotRefused cost st) z.0 w l (turn_of_duty means space cost small X acc H s runs st a p (listen l) i)))
+            let z = hear_is M cost small X acc H s runs st a e d p h k (is_role X p (taken_by p H) (listen l) i) in
+            z.1.takes.0 (subst⁻¹ (λ x. model.Taken (call cost st x).1) z.0 (subst (model.NotRefused cost st) z.0 w l (turn_of_duty M cost small X acc H s runs st a p (listen l) i)))
         go (Register r n) k i = absurd i
         go (Atom n) k i = absurd i
         go (Tuple parts) k i = absurd i
@@ -285,85 +289,85 @@ module _ {S : Type 0} (means : S → Meaning) (space : S → ℕ) (cost : Tree �
         go (Same h j) k i = absurd i
         go Space k i = absurd i
 
-  unbuilt_along : (es H : List (Step S)) → Every (Unbuilt means space cost X) es → Along means space cost X (λ B e. Unbuilt means space cost X e) H es
+  unbuilt_along : (es H : List (Step S)) → Every (Unbuilt M X) es → Along M X (λ B e. Unbuilt M X e) H es
   unbuilt_along [] H u = tt
   unbuilt_along (e ∷ es) H u = (u.0, unbuilt_along es (H ++ (e ∷ [])) u.1)
 
-  suffices_to : (R : Tree → Tree) (es H : List (Step S)) (s : S) (runs : List Run) (st : State) (s' : S) (runs' : List Run) → Now H s runs st → Happened means space cost s runs es s' runs'
-      → Suffices means space cost X R H es → model.Suffices X cost R st (events es)
+  suffices_to : (R : Tree → Tree) (es H : List (Step S)) (s : S) (runs : List Run) (st : State) (s' : S) (runs' : List Run) → Now H s runs st → Happened M s runs es s' runs'
+      → Suffices M X R H es → model.Suffices X cost R st (events es)
   suffices_to R [] H s runs st s' runs' a h w = tt
   suffices_to R (e ∷ es) H s runs st s' runs' a h w =
       suffices_first H s runs st a e h.0 R ev' (events es)
-      (subst⁻¹ (λ b. cond b ((model.costs X cost R X.roles ≤ st.space) × model.Along cost (model.Unbuilt cost) (call cost st (event means space cost small X acc e)).0 (events es))
-      (model.Suffices X cost R (call cost st (event means space cost small X acc e)).0 (events es))) (starts_kind H s runs st a e h.0 e.asked)
-      (go (to_start means space cost X H e.asked) w
-      (λ u. suffices_to R es (H ++ (e ∷ [])) e.after e.runs_after (call cost st (event means space cost small X acc e)).0 s' runs' (at_next means space cost small X acc H s runs st a e h.0) h.1 u)))
+      (subst⁻¹ (λ b. cond b ((model.costs X cost R X.roles ≤ st.space) × model.Along cost (model.Unbuilt cost) (call cost st (event M cost small X acc e)).0 (events es))
+      (model.Suffices X cost R (call cost st (event M cost small X acc e)).0 (events es))) (starts_kind H s runs st a e h.0 e.asked)
+      (go (to_start M X H e.asked) w
+      (λ u. suffices_to R es (H ++ (e ∷ [])) e.after e.runs_after (call cost st (event M cost small X acc e)).0 s' runs' (at_next M cost small X acc H s runs st a e h.0) h.1 u)))
     where
       ev' : Event
-      ev' = event means space cost small X acc e
+      ev' = event M cost small X acc e
 
-      then : Now (H ++ (e ∷ [])) e.after e.runs_after (call cost st (event means space cost small X acc e)).0
-      then = at_next means space cost small X acc H s runs st a e h.0
+      then : Now (H ++ (e ∷ [])) e.after e.runs_after (call cost st (event M cost small X acc e)).0
+      then = at_next M cost small X acc H s runs st a e h.0
 
-      rest : Happened means space cost e.after e.runs_after es s' runs'
+      rest : Happened M e.after e.runs_after es s' runs'
       rest = h.1
 
-      go : (b : Bool) → cond b ((model.costs X cost R X.roles ≤ space e.before) × Every (Unbuilt means space cost X) es) (Suffices means space cost X R (H ++ (e ∷ [])) es)
-          → (Suffices means space cost X R (H ++ (e ∷ [])) es → model.Suffices X cost R (call cost st (event means space cost small X acc e)).0 (events es))
-          → cond b ((model.costs X cost R X.roles ≤ st.space) × model.Along cost (model.Unbuilt cost) (call cost st (event means space cost small X acc e)).0 (events es))
-          (model.Suffices X cost R (call cost st (event means space cost small X acc e)).0 (events es))
+      go : (b : Bool) → cond b ((model.costs X (M.cost e.before) R X.roles ≤ M.space e.before) × Every (Unbuilt M X) es) (Suffices M X R (H ++ (e ∷ [])) es)
+          → (Suffices M X R (H ++ (e ∷ [])) es → model.Suffices X cost R (call cost st (event M cost small X acc e)).0 (events es))
+          → cond b ((model.costs X cost R X.roles ≤ st.space) × model.Along cost (model.Unbuilt cost) (call cost st (event M cost small X acc e)).0 (events es))
+          (model.Suffices X cost R (call cost st (event M cost small X acc e)).0 (events es))
       go true w k = (
-        subst⁻¹ (λ n. model.costs X cost R X.roles ≤ n) (free_is H s runs st a e h.0) w.0,
-        along_to (λ B e. Unbuilt means space cost X e) (model.Unbuilt cost) (λ H s runs st a e d u. unbuilt_to H s runs st a e d u) es (H ++ (e ∷ [])) e.after e.runs_after (call cost st (event means space cost small X acc e)).0 s' runs' then rest
+        subst⁻¹ (λ n. model.costs X cost R X.roles ≤ n) (free_is H s runs st a e h.0) (subst (λ c. model.costs X c R X.roles ≤ M.space e.before) (priced_is H s runs st a e h.0) w.0),
+        along_to (λ B e. Unbuilt M X e) (model.Unbuilt cost) (λ H s runs st a e d u. unbuilt_to H s runs st a e d u) es (H ++ (e ∷ [])) e.after e.runs_after (call cost st (event M cost small X acc e)).0 s' runs' then rest
             (unbuilt_along es (H ++ (e ∷ [])) w.1),
       )
       go false w k = k w
 
   -- the law, where steps from new runs have led
-  module _ (first : S) (new : List Run) (b : Begins X new) where
-    begun : Now [] first new (sessions.new_runs X (space first))
-    begun = at_start means space cost small X acc first new b
+  module _ (first : S) (new : List Run) (p : M.cost first ≡ cost) (b : Begins X new) where
+    begun : Now [] first new (sessions.new_runs X (M.space first))
+    begun = at_start M cost small X acc first new p b
 
-    pub lawful_end : (H : List (Step S)) (s : S) (runs : List Run) → Happened means space cost first new H s runs → Lawful means space cost X H s runs
+    pub lawful_end : (H : List (Step S)) (s : S) (runs : List Run) → Happened M first new H s runs → Lawful M X H s runs
     lawful_end H s runs h = record {
       derived = derived H s runs st end;
       holding = holding H s runs st end;
-      decided = along (Decided means space cost X) (λ H s runs st a e d. decided means space cost small X acc H s runs st a e d) H [] first new (sessions.new_runs X (space first)) s runs begun h;
+      decided = along (Decided M X) (λ H s runs st a e d. decided M cost small X acc H s runs st a e d) H [] first new (sessions.new_runs X (M.space first)) s runs begun h;
       chosen = λ ρ f.
-          let fair : model.Fair X cost ρ (sessions.new_runs X (space first)) (events H) = record {
-            start = along_to (StartsFrom means space cost X ρ) (model.StartsFrom X ρ) (λ H s runs st a e d w. start_to H s runs st a e d ρ w) H [] first new (sessions.new_runs X (space first)) s runs begun h f.start;
-            arrive = along_to (AsSaid means space cost X) model.AsSaid (λ H s runs st a e d w. arrive_to H s runs st a e d w) H [] first new (sessions.new_runs X (space first)) s runs begun h f.arrive;
-            suffice = suffices_to (reading_of ρ) H [] first new (sessions.new_runs X (space first)) s runs begun h f.suffice;
+          let fair : model.Fair X cost ρ (sessions.new_runs X (M.space first)) (events H) = record {
+            start = along_to (StartsFrom M X ρ) (model.StartsFrom X ρ) (λ H s runs st a e d w. start_to H s runs st a e d ρ w) H [] first new (sessions.new_runs X (M.space first)) s runs begun h f.start;
+            arrive = along_to (AsSaid M X) model.AsSaid (λ H s runs st a e d w. arrive_to H s runs st a e d w) H [] first new (sessions.new_runs X (M.space first)) s runs begun h f.arrive;
+            suffice = suffices_to (reading_of ρ) H [] first new (sessions.new_runs X (M.space first)) s runs begun h f.suffice;
           } in
-          let z = (session_law X acc cost (space first) (events H)).chosen ρ fair in (
-            along_from (NotRefused means space cost X) (model.NotRefused cost) (λ H s runs st a e d w. not_refused_from H s runs st a e d w) H [] first new (sessions.new_runs X (space first)) s runs begun h z.0,
+          let z = (session_law X acc cost (M.space first) (events H)).chosen ρ fair in (
+            along_from (NotRefused M X) (model.NotRefused cost) (λ H s runs st a e d w. not_refused_from H s runs st a e d w) H [] first new (sessions.new_runs X (M.space first)) s runs begun h z.0,
             all_read H s runs st end (reading_of ρ) z.1,
             all_share H s runs st end z.2,
           );
     }
       where
         st : State
-        st = sessions.after cost (sessions.new_runs X (space first)) (events H)
+        st = sessions.after cost (sessions.new_runs X (M.space first)) (events H)
 
-        end : Now H s runs (sessions.after cost (sessions.new_runs X (space first)) (events H))
-        end = at_end H [] first new (sessions.new_runs X (space first)) s runs begun h
+        end : Now H s runs (sessions.after cost (sessions.new_runs X (M.space first)) (events H))
+        end = at_end H [] first new (sessions.new_runs X (M.space first)) s runs begun h
 
   -- steps up to a point, and steps after others
-  pub happened_part : (es rest : List (Step S)) (s : S) (runs : List Run) (s' : S) (runs' : List Run) → Happened means space cost s runs (es ++ rest) s' runs'
-      → Happened means space cost s runs es (store_at s es) (runs_at runs es)
+  pub happened_part : (es rest : List (Step S)) (s : S) (runs : List Run) (s' : S) (runs' : List Run) → Happened M s runs (es ++ rest) s' runs'
+      → Happened M s runs es (store_at s es) (runs_at runs es)
   happened_part [] rest s runs s' runs' h = (refl, refl)
   happened_part (e ∷ es) rest s runs s' runs' h = (h.0, happened_part es rest e.after e.runs_after s' runs' h.1)
 
-  pub happened_join : (es rest : List (Step S)) (s : S) (runs : List Run) (t : S) (ts : List Run) (s' : S) (runs' : List Run) → Happened means space cost s runs es t ts
-      → Happened means space cost t ts rest s' runs' → Happened means space cost s runs (es ++ rest) s' runs'
-  happened_join [] rest s runs t ts s' runs' h k = subst (λ z. Happened means space cost z runs rest s' runs') h.0 (subst (λ z. Happened means space cost t z rest s' runs') h.1 k)
+  pub happened_join : (es rest : List (Step S)) (s : S) (runs : List Run) (t : S) (ts : List Run) (s' : S) (runs' : List Run) → Happened M s runs es t ts
+      → Happened M t ts rest s' runs' → Happened M s runs (es ++ rest) s' runs'
+  happened_join [] rest s runs t ts s' runs' h k = subst (λ z. Happened M z runs rest s' runs') h.0 (subst (λ z. Happened M t z rest s' runs') h.1 k)
   happened_join (e ∷ es) rest s runs t ts s' runs' h k = (h.0, happened_join es rest e.after e.runs_after t ts s' runs' h.1 k)
 
   -- at every point of steps that went on from others
-  pub lawful_points : (first : S) (new : List Run) → Begins X new → (past : List (Step S)) (old : S) (runs : List Run)
-      → Happened means space cost first new past old runs → (H : List (Step S)) (s : S) (runs' : List Run) → Happened means space cost old runs H s runs'
-      → (es rest : List (Step S)) → H ≡ es ++ rest → Lawful means space cost X (past ++ es) (store_at old es) (runs_at runs es)
-  lawful_points first new b past old runs k H s runs' h es rest e =
-      lawful_end first new b (past ++ es) (store_at old es) (runs_at runs es)
+  pub lawful_points : (first : S) (new : List Run) → M.cost first ≡ cost → Begins X new → (past : List (Step S)) (old : S) (runs : List Run)
+      → Happened M first new past old runs → (H : List (Step S)) (s : S) (runs' : List Run) → Happened M old runs H s runs'
+      → (es rest : List (Step S)) → H ≡ es ++ rest → Lawful M X (past ++ es) (store_at old es) (runs_at runs es)
+  lawful_points first new p b past old runs k H s runs' h es rest e =
+      lawful_end first new p b (past ++ es) (store_at old es) (runs_at runs es)
       (happened_join past es first new old runs (store_at old es) (runs_at runs es) k
-      (happened_part es rest old runs s runs' (subst (λ l. Happened means space cost old runs l s runs') e h)))
+      (happened_part es rest old runs s runs' (subst (λ l. Happened M old runs l s runs') e h)))

@@ -1,5 +1,5 @@
 -- A run that is there is called.
-use Rattle.std.proofs.Common.{◌≡◌, ℕ, ◌<◌, cond, ltb, List, length, get_or, set, refl}
+use Rattle.std.proofs.Common.{◌≡◌, ℕ, ◌<◌, cond, List, length, get_or, set, refl}
 use Rattle.std.proofs.lemmas.Bool.{lt-ltb}
 use mathlib.Core.Path.{subst⁻¹}
 use Rattle.run.specs.declared.run.Run.{Run}

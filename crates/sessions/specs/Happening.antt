@@ -1,8 +1,7 @@
 -- Requests that were performed one after the other on runs over a store.
-use Rattle.std.specs.Prelude.{◌≡◌, ℕ, List, [], ◌∷◌, ◌++◌}
-use Rattle.model.specs.Trees.{Tree}
+use Rattle.std.specs.Prelude.{◌≡◌, List, [], ◌∷◌, ◌++◌}
+use Rattle.store.specs.Semantics.{Semantics}
 use Rattle.run.specs.declared.run.Run.{Run}
-use Rattle.run.specs.Shown.{Meaning}
 use Rattle.sessions.specs.declared.reply.Reply.{Reply}
 use Rattle.sessions.specs.Replies.{Does}
 use Rattle.sessions.specs.Observed.{Step}
@@ -22,12 +21,12 @@ module _ {S : Type 0} where
   Named rs [] = Unit {0}
   Named rs (e ∷ es) = (e.earlier ≡ rs) × Named (rs ++ (e.reply ∷ [])) es
 
-module _ {S : Type 0} (means : S → Meaning) (space : S → ℕ) (cost : Tree → ℕ) where
+module _ {S : Type 0} (M : Semantics S) where
   -- one step, from where those before it have led: it did what the contract of one call says
   pub record Did (s : S) (runs : List Run) (e : Step S) : Type 0 where
     pub before : e.before ≡ s
     pub runs_before : e.runs_before ≡ runs
-    pub does : Does means space cost e.before e.after e.runs_before e.runs_after e.earlier e.asked e.reply
+    pub does : Does M e.before e.after e.runs_before e.runs_after e.earlier e.asked e.reply
 
   -- steps in order, to a store and runs
   abbrev pub Happened : S → List Run → List (Step S) → S → List Run → Type 0

@@ -3,6 +3,7 @@ pub mod PlainLaw
 pub mod Requests
 pub mod Replies
 pub mod Performing
+pub mod Faults
 pub mod Starting
 pub mod Observed
 pub mod RunLaw

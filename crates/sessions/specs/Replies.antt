@@ -4,11 +4,12 @@ use Rattle.model.specs.Trees.{tupled, crypted, applied, Tree, leaf}
 use Rattle.store.specs.declared.fault.StoreFault.{StoreFault}
 use Rattle.store.specs.Makers.{wanted, Makes}
 use Rattle.store.specs.Questions.{shape_answer, part_value, unlocked_value, same_answer, Answers}
+use Rattle.store.specs.Semantics.{Semantics}
 use Rattle.run.specs.declared.fault.RunFault.{RunFault}
 use Rattle.run.specs.declared.run.Run.{Run}
-use Rattle.run.specs.Called.{Begins, Says, Hears}
+use Rattle.run.specs.Calls.{Begins, Says, Hears}
 use Rattle.run.specs.Looked.{looked}
-use Rattle.run.specs.Shown.{Meaning, register}
+use Rattle.run.specs.Shown.{register}
 use Rattle.sessions.specs.declared.reply.Reply.{Reply}
 use Rattle.sessions.specs.declared.reply.Reply.TheVariants as replies
 use Rattle.sessions.specs.declared.request.Request.{Request}
@@ -40,27 +41,27 @@ Calls old new runs runs' r reply Called =
     ((run run' : Run) × (runs' ≡ slice_set runs r run') × Called (slice_index_or runs r run) run')
     ((new ≡ old) × (runs' ≡ runs) × (reply ≡ replies.NoRole))
 
-module _ {S : Type 0} (means : S → Meaning) (space : S → ℕ) (cost : Tree → ℕ) where
+module _ {S : Type 0} (M : Semantics S) where
   -- begin, say and hear do what a run's call does
   abbrev pub BeginsAt : S → S → List Run → List Run → ℕ → List ℕ → List ℕ → Reply → Type 0
   BeginsAt old new runs runs' r given numbers reply =
-      Calls old new runs runs' r reply (λ run run'. (x : Result (Unit {0}) RunFault) × Begins means space cost old new run run' given numbers x × (reply ≡ reply_of (λ u. replies.Done) x))
+      Calls old new runs runs' r reply (λ run run'. (x : Result (Unit {0}) RunFault) × Begins M old new run run' given numbers x × (reply ≡ reply_of (λ u. replies.Done) x))
 
   abbrev pub SaysAt : S → S → List Run → List Run → ℕ → Reply → Type 0
   SaysAt old new runs runs' r reply =
-      Calls old new runs runs' r reply (λ run run'. (x : Result ℕ RunFault) × Says means space cost old new run run' x × (reply ≡ reply_of replies.Handle x))
+      Calls old new runs runs' r reply (λ run run'. (x : Result ℕ RunFault) × Says M old new run run' x × (reply ≡ reply_of replies.Handle x))
 
   abbrev pub HearsAt : S → S → List Run → List Run → ℕ → ℕ → Reply → Type 0
   HearsAt old new runs runs' r handle reply =
-      Calls old new runs runs' r reply (λ run run'. (x : Result (Unit {0}) RunFault) × Hears means space cost old new run run' handle x × (reply ≡ reply_of (λ u. replies.Done) x))
+      Calls old new runs runs' r reply (λ run run'. (x : Result (Unit {0}) RunFault) × Hears M old new run run' handle x × (reply ≡ reply_of (λ u. replies.Done) x))
 
   -- a value is made, or the store refuses it
   abbrev pub Made : S → S → Result Tree StoreFault → Reply → Type 0
-  Made old new v reply = (x : Result ℕ StoreFault) × Makes means space cost old new v x × (reply ≡ reply_by replies.Handle x)
+  Made old new v reply = (x : Result ℕ StoreFault) × Makes M old new v x × (reply ≡ reply_by replies.Handle x)
 
   -- a question about a handle
   abbrev pub Found : S → Result Tree StoreFault → Reply → Type 0
-  Found s v reply = (x : Result ℕ StoreFault) × Answers (means s) v x × (reply ≡ reply_by replies.Handle x)
+  Found s v reply = (x : Result ℕ StoreFault) × Answers (M.means s) v x × (reply ≡ reply_by replies.Handle x)
 
   module _ (old new : S) (runs runs' : List Run) (rs : List Reply) where
     -- only the store may change; nothing changes
@@ -77,11 +78,11 @@ module _ {S : Type 0} (means : S → Meaning) (space : S → ℕ) (cost : Tree �
     Does (Hear r h) reply = HearsAt old new runs runs' r (handle_of rs h) reply
     Does (Register r n) reply = Asks (Looks runs r n reply)
     Does (Atom n) reply = MakesValue (Ok (leaf n)) reply
-    Does (Tuple parts) reply = MakesValue (wanted (means old) tupled (handles_of rs (vec_items parts))) reply
-    Does (Crypt text key) reply = MakesValue (wanted (means old) crypted (handle_of rs text ∷ handle_of rs key ∷ [])) reply
-    Does (Apply f parts) reply = MakesValue (wanted (means old) (applied f) (handles_of rs (vec_items parts))) reply
-    Does (Shape h) reply = Asks (reply ≡ reply_by replies.Shape (shape_answer (means old (handle_of rs h))))
-    Does (Part h i) reply = Asks (Found old (part_value (means old (handle_of rs h)) i) reply)
-    Does (Unlock h k) reply = Asks (Found old (unlocked_value (means old (handle_of rs h)) (means old (handle_of rs k))) reply)
-    Does (Same h k) reply = Asks (reply ≡ reply_by replies.Same (same_answer (means old (handle_of rs h)) (means old (handle_of rs k))))
-    Does Space reply = Asks (reply ≡ replies.Space (space old))
+    Does (Tuple parts) reply = MakesValue (wanted (M.means old) tupled (handles_of rs (vec_items parts))) reply
+    Does (Crypt text key) reply = MakesValue (wanted (M.means old) crypted (handle_of rs text ∷ handle_of rs key ∷ [])) reply
+    Does (Apply f parts) reply = MakesValue (wanted (M.means old) (applied f) (handles_of rs (vec_items parts))) reply
+    Does (Shape h) reply = Asks (reply ≡ reply_by replies.Shape (shape_answer (M.means old (handle_of rs h))))
+    Does (Part h i) reply = Asks (Found old (part_value (M.means old (handle_of rs h)) i) reply)
+    Does (Unlock h k) reply = Asks (Found old (unlocked_value (M.means old (handle_of rs h)) (M.means old (handle_of rs k))) reply)
+    Does (Same h k) reply = Asks (reply ≡ reply_by replies.Same (same_answer (M.means old (handle_of rs h)) (M.means old (handle_of rs k))))
+    Does Space reply = Asks (reply ≡ replies.Space (M.space old))

@@ -1,10 +1,7 @@
 -- The handles that a request names, by the replies to those before it.
-use Rattle.std.specs.Prelude.{ℕ, cond, List, [], ◌∷◌, length, map, Ok, Err, Result, slice_index_or, nat_lt, vec_items}
+use Rattle.std.specs.Prelude.{ℕ, List, length, map, slice_index_or, vec_items}
 use Rattle.std.proofs.Math.Option.{Option}
-use Rattle.model.specs.Trees.{tupled, crypted, applied, Tree, leaf}
-use Rattle.model.specs.Sessions.{Event, begin, say, hear, build, other}
-use Rattle.store.specs.declared.fault.StoreFault.{StoreFault}
-use Rattle.store.specs.Makers.{wanted}
+use Rattle.model.specs.Trees.{Tree}
 use Rattle.run.specs.Shown.{Meaning, as_option}
 use Rattle.sessions.specs.declared.reply.Reply.{Reply}
 use Rattle.sessions.specs.declared.reply.Reply.TheVariants as replies

@@ -14,9 +14,10 @@ use Rattle.model.specs.Programs.{nobody_yet, next_role}
 use Rattle.model.specs.CountLaw.{CountsKept}
 use Rattle.model.specs.Deducible.{Deducible}
 use Rattle.model.specs.SessionLaw.{costs}
+use Rattle.store.specs.Semantics.{Semantics}
 use Rattle.run.specs.declared.run.Run.{Run}
 use Rattle.run.specs.Faults.{run_fault_number}
-use Rattle.run.specs.Shown.{Meaning, register}
+use Rattle.run.specs.Shown.{register}
 use Rattle.sessions.specs.declared.reply.Reply.{Reply}
 use Rattle.sessions.specs.declared.reply.Reply.TheVariants as replies
 use Rattle.sessions.specs.declared.request.Handle.{Handle}
@@ -67,7 +68,7 @@ module _ (X : Specification) where
   abbrev pub RightCounts : ℕ → List (Option Tree) → List ℕ → Type 0
   RightCounts r hs ns = (length hs ≡ length (each_once [] (X.knows r))) × (length ns ≡ length (names_of_all X (duties X r)))
 
-module _ {S : Type 0} (means : S → Meaning) (space : S → ℕ) (cost : Tree → ℕ) (X : Specification) where
+module _ {S : Type 0} (M : Semantics S) (X : Specification) where
   -- something holds of each step, after those before it
   abbrev pub Along : (List (Step S) → Step S → Type 0) → List (Step S) → List (Step S) → Type 0
   Along Q before [] = Unit {0}
@@ -92,52 +93,52 @@ module _ {S : Type 0} (means : S → Meaning) (space : S → ℕ) (cost : Tree �
   -- each value in a role's registers, and each it said, can be derived from what it was given, made and heard, each function with its declared number of parts
   pub record Derived (H : List (Step S)) (s : S) (runs : List Run) : Type 0 where
     pub in_registers : (declared : ℕ → ℕ) → CountsKept declared X → (r q : ℕ) (run : Run) (v : Tree) → r < length runs
-        → means s (register (slice_index_or runs r run).registers q) ≡ Some v → Deducible declared (X.party r) (ValueOf (stock means X r H)) v
-    pub in_says : (declared : ℕ → ℕ) → CountsKept declared X → (r : ℕ) → Every (λ p. Deducible declared (X.party r) (ValueOf (stock means X r H)) p.1) (lines_said means X r H)
+        → M.means s (register (slice_index_or runs r run).registers q) ≡ Some v → Deducible declared (X.party r) (ValueOf (stock M.means X r H)) v
+    pub in_says : (declared : ℕ → ℕ) → CountsKept declared X → (r : ℕ) → Every (λ p. Deducible declared (X.party r) (ValueOf (stock M.means X r H)) p.1) (lines_said M.means X r H)
 
   -- each term that it was given, heard or made is known, and the register of each known term holds a value
   pub record Holding (H : List (Step S)) (s : S) (runs : List Run) : Type 0 where
-    pub known : (r : ℕ) (t : Tree) → TermOf (stock means X r H) t → Has (known_after X r (length (taken_by r H))) t
+    pub known : (r : ℕ) (t : Tree) → TermOf (stock M.means X r H) t → Has (known_after X r (length (taken_by r H))) t
     pub filled : (r i : ℕ) (run : Run) (t : Tree) → r < length runs → Held (known_after X r (length (taken_by r H))) t i
-        → (v : Tree) × (means s (register (slice_index_or runs r run).registers i) ≡ Some v)
+        → (v : Tree) × (M.means s (register (slice_index_or runs r run).registers i) ≡ Some v)
 
   -- A value heard in turn, unless the store refuses one of its builds, is taken exactly if some choice for names and closed terms gives all
   -- the role's holdings, this one too, their values; and so are the values given at a begin in turn with right counts.
   pub record Decided (H : List (Step S)) (e : Step S) : Type 0 where
     pub hear_taken : (r l : ℕ) (h : Handle) (v : Tree) → e.asked ≡ Hear r h → next_duty X r H ≡ some (listen l)
-        → means e.before (handle_of e.earlier h) ≡ Some v → ¬ Refused 15 e.reply
-        → T (taken e.reply) ↔ Readable (X.party r) (add (stock means X r H) (message X l ∷ []) (v ∷ []) [] [])
+        → M.means e.before (handle_of e.earlier h) ≡ Some v → ¬ Refused 15 e.reply
+        → T (taken e.reply) ↔ Readable (X.party r) (add (stock M.means X r H) (message X l ∷ []) (v ∷ []) [] [])
     pub hear_refused : (r l : ℕ) (h : Handle) (v : Tree) → e.asked ≡ Hear r h → next_duty X r H ≡ some (listen l)
-        → means e.before (handle_of e.earlier h) ≡ Some v → ¬ T (taken e.reply) → Refused 14 e.reply ⊎ Refused 15 e.reply
+        → M.means e.before (handle_of e.earlier h) ≡ Some v → ¬ T (taken e.reply) → Refused 14 e.reply ⊎ Refused 15 e.reply
     pub begin_taken : (r : ℕ) (given : Vec Handle Global) (numbers : Vec ℕ Global) (vs : List Tree) → e.asked ≡ Begin r given numbers
-        → next_duty X r H ≡ some (begin (X.knows r)) → values_in means e ≡ map some vs → RightCounts X r (values_in means e) (vec_items numbers) → ¬ Refused 15 e.reply
+        → next_duty X r H ≡ some (begin (X.knows r)) → values_in M.means e ≡ map some vs → RightCounts X r (values_in M.means e) (vec_items numbers) → ¬ Refused 15 e.reply
         → T (taken e.reply) ↔ Readable (X.party r) (add nothing_held (each_once [] (X.knows r)) vs [] [])
     pub begin_refused : (r : ℕ) (given : Vec Handle Global) (numbers : Vec ℕ Global) (vs : List Tree) → e.asked ≡ Begin r given numbers
-        → next_duty X r H ≡ some (begin (X.knows r)) → values_in means e ≡ map some vs → RightCounts X r (values_in means e) (vec_items numbers) → ¬ T (taken e.reply)
+        → next_duty X r H ≡ some (begin (X.knows r)) → values_in M.means e ≡ map some vs → RightCounts X r (values_in M.means e) (vec_items numbers) → ¬ T (taken e.reply)
         → Refused 14 e.reply ⊎ Refused 15 e.reply
     pub say_refused : (r l : ℕ) (mk : ℕ → Bool) → e.asked ≡ Say r → next_duty X r H ≡ some (speak l mk) → ¬ T (taken e.reply) → Refused 15 e.reply
     -- a say that is taken answers a valid handle
-    pub say_answers : (r : ℕ) → e.asked ≡ Say r → T (taken e.reply) → (h : ℕ) × (v : Tree) × (e.reply ≡ replies.Handle h) × (means e.after h ≡ Some v)
+    pub say_answers : (r : ℕ) → e.asked ≡ Say r → T (taken e.reply) → (h : ℕ) × (v : Tree) × (e.reply ≡ replies.Handle h) × (M.means e.after h ≡ Some v)
     -- refused for other reasons: a call of a role that is out of turn, a begin with wrong counts, a handle that is not valid
     pub out_of_turn : (r : ℕ) → T (calls r e.asked) → r < X.roles → Refused 11 e.reply ↔ (¬ InTurn H e.asked)
     pub wrong_counts : (r : ℕ) (given : Vec Handle Global) (numbers : Vec ℕ Global) → e.asked ≡ Begin r given numbers → next_duty X r H ≡ some (begin (X.knows r))
-        → Refused 13 e.reply ↔ (¬ RightCounts X r (values_in means e) (vec_items numbers))
-    pub hear_invalid : (r l : ℕ) (h : Handle) → e.asked ≡ Hear r h → next_duty X r H ≡ some (listen l) → means e.before (handle_of e.earlier h) ≡ None → Refused 12 e.reply
+        → Refused 13 e.reply ↔ (¬ RightCounts X r (values_in M.means e) (vec_items numbers))
+    pub hear_invalid : (r l : ℕ) (h : Handle) → e.asked ≡ Hear r h → next_duty X r H ≡ some (listen l) → M.means e.before (handle_of e.earlier h) ≡ None → Refused 12 e.reply
     pub begin_invalid : (r : ℕ) (given : Vec Handle Global) (numbers : Vec ℕ Global) (vs : List Tree) (hs : List (Option Tree)) → e.asked ≡ Begin r given numbers
-        → next_duty X r H ≡ some (begin (X.knows r)) → values_in means e ≡ map some vs ++ (nothing ∷ hs) → RightCounts X r (values_in means e) (vec_items numbers)
+        → next_duty X r H ≡ some (begin (X.knows r)) → values_in M.means e ≡ map some vs ++ (nothing ∷ hs) → RightCounts X r (values_in M.means e) (vec_items numbers)
         → Refused 12 e.reply
 
   -- a begin in turn has the readings of the start's terms as givens, and the numbers of the atoms chosen for the names that the role makes
   abbrev pub StartsFrom : (ℕ → Tree) → List (Step S) → Step S → Type 0
   StartsFrom ρ H e =
       (r : ℕ) (given : Vec Handle Global) (numbers : Vec ℕ Global) → e.asked ≡ Begin r given numbers → next_duty X r H ≡ some (begin (X.knows r))
-      → (values_in means e ≡ map (λ t. some (reading_of ρ t)) (each_once [] (X.knows r))) × (map leaf (vec_items numbers) ≡ map ρ (names_of_all X (duties X r)))
+      → (values_in M.means e ≡ map (λ t. some (reading_of ρ t)) (each_once [] (X.knows r))) × (map leaf (vec_items numbers) ≡ map ρ (names_of_all X (duties X r)))
 
   -- a hear in turn has a valid handle, with the value of an earlier taken say of that line
   abbrev pub AsSaid : List (Step S) → Step S → Type 0
   AsSaid H e =
       (r l : ℕ) (h : Handle) → e.asked ≡ Hear r h → next_duty X r H ≡ some (listen l)
-      → (v : Tree) × (means e.before (handle_of e.earlier h) ≡ Some v) × (q : ℕ) × SomeOf (λ p. (p.0 ≡ l) × (p.1 ≡ v)) (lines_said means X q H)
+      → (v : Tree) × (M.means e.before (handle_of e.earlier h) ≡ Some v) × (q : ℕ) × SomeOf (λ p. (p.0 ≡ l) × (p.1 ≡ v)) (lines_said M.means X q H)
 
   -- nobody else builds
   abbrev pub Unbuilt : Step S → Type 0
@@ -163,7 +164,7 @@ module _ {S : Type 0} (means : S → Meaning) (space : S → ℕ) (cost : Tree �
   abbrev pub Suffices : (Tree → Tree) → List (Step S) → List (Step S) → Type 0
   Suffices R before [] = Unit {0}
   Suffices R before (e ∷ es) =
-      cond (to_start before e.asked) ((costs X cost R X.roles ≤ space e.before) × Every Unbuilt es) (Suffices R (before ++ (e ∷ [])) es)
+      cond (to_start before e.asked) ((costs X (M.cost e.before) R X.roles ≤ M.space e.before) × Every Unbuilt es) (Suffices R (before ++ (e ∷ [])) es)
 
   -- so far all roles start from one choice for the names, each line arrives as said, and space suffices for every build
   pub record Fair (ρ : ℕ → Tree) (H : List (Step S)) : Type 0 where
@@ -179,14 +180,14 @@ module _ {S : Type 0} (means : S → Meaning) (space : S → ℕ) (cost : Tree �
   abbrev pub AllRead : (Tree → Tree) → List (Step S) → S → List Run → Type 0
   AllRead R H s runs =
       (r i : ℕ) (run : Run) (t : Tree) → r < length runs → Held (known_after X r (length (taken_by r H))) t i
-      → means s (register (slice_index_or runs r run).registers i) ≡ Some (R t)
+      → M.means s (register (slice_index_or runs r run).registers i) ≡ Some (R t)
 
   -- any two roles share one value for each term that both hold
   abbrev pub AllShare : List (Step S) → S → List Run → Type 0
   AllShare H s runs =
       (r q i j : ℕ) (run : Run) (t : Tree) → r < length runs → q < length runs
       → Held (known_after X r (length (taken_by r H))) t i → Held (known_after X q (length (taken_by q H))) t j
-      → (v : Tree) × (means s (register (slice_index_or runs r run).registers i) ≡ Some v) × (means s (register (slice_index_or runs q run).registers j) ≡ Some v)
+      → (v : Tree) × (M.means s (register (slice_index_or runs r run).registers i) ≡ Some v) × (M.means s (register (slice_index_or runs q run).registers j) ≡ Some v)
 
   -- the law, where these steps have led
   pub record Lawful (H : List (Step S)) (s : S) (runs : List Run) : Type 0 where

@@ -12,14 +12,12 @@ use Rattle.terms.specs.declared.limits.Limits.{Limits}
 use Rattle.terms.specs.Counts.{count_or}
 use Rattle.terms.specs.Scope.{Scope}
 use Rattle.program.specs.declared.action.Row.{Row}
-use Rattle.program.specs.declared.take_up.ProgramFault.{ProgramFault}
-use Rattle.program.specs.declared.take_up.ProgramFault.TheVariants.{Unsound, NoMemory}
 use Rattle.program.specs.Held.{passes}
 use Rattle.roles.specs.declared.role.Role.{Role}
 use Rattle.roles.specs.declared.translation.Translation.{Translation}
 use Rattle.roles.specs.Specified.{specified}
 use Rattle.roles.specs.Stages.{Stage, lines}
-use Rattle.roles.specs.Staging.{Staged}
+use Rattle.roles.specs.Staging.{stage_of}
 use Rattle.roles.specs.Translating.{translation}
 use Rattle.roles.specs.TranslationLaw.{no_roles, Declares}
 use Rattle.run.specs.declared.run.Run.{Run}
@@ -27,6 +25,8 @@ use Rattle.run.specs.Called.{Shows}
 use Rattle.run.specs.Filling.{lined}
 use Rattle.run.specs.Plain.{new_plain}
 use Rattle.run.specs.Shown.{Meaning}
+use Rattle.sessions.specs.declared.fault.RunsFault.{RunsFault}
+use Rattle.sessions.specs.declared.fault.RunsFault.TheVariants.{Unsound, NoMemory}
 
 -- how many parts a function takes, in a byte
 abbrev pub short_count : Function → ℕ
@@ -56,19 +56,19 @@ pub record TextRuns (limits : Limits) (text : List ℕ) (runs : List Run) : Type
   pub begins : Begins (specified text scope spec.lines) runs
 
 -- a run of rows is refused if they cannot be held with these counts, want of memory aside
-abbrev pub RunOf : List ℕ → List Row → Result Run ProgramFault → Type 0
+abbrev pub RunOf : List ℕ → List Row → Result Run RunsFault → Type 0
 RunOf counts rows (Ok run) = (passes counts rows ≡ true) × ((m : Meaning) → Shows m run (new_plain (map lined rows)))
 RunOf counts rows (Err Unsound) = passes counts rows ≡ false
 RunOf counts rows (Err NoMemory) = Unit {0}
 
 -- and so are runs of roles, if some role's rows cannot
-abbrev pub AllNew : List ℕ → List Role → Result (Vec Run Global) ProgramFault → Type 0
+abbrev pub AllNew : List ℕ → List Role → Result (Vec Run Global) RunsFault → Type 0
 AllNew counts roles (Ok runs) = NewRuns roles (vec_items runs)
 AllNew counts roles (Err Unsound) = SomeOf (λ (r : Role). passes counts (vec_items r.rows) ≡ false) roles
 AllNew counts roles (Err NoMemory) = Unit {0}
 
 -- new runs of a translation's roles are new runs of the roles of each text that it translates
-abbrev pub RunsOf : Translation → List ℕ → Result (Vec Run Global) ProgramFault → Type 0
-RunsOf T counts (Ok runs) = NewRuns (vec_items T.roles) (vec_items runs) × ((limits : Limits) (text : List ℕ) → Staged (translation limits text) T → TextRuns limits text (vec_items runs))
+abbrev pub RunsOf : Translation → List ℕ → Result (Vec Run Global) RunsFault → Type 0
+RunsOf T counts (Ok runs) = NewRuns (vec_items T.roles) (vec_items runs) × ((limits : Limits) (text : List ℕ) → translation limits text ≡ Ok (stage_of T) → TextRuns limits text (vec_items runs))
 RunsOf T counts (Err Unsound) = SomeOf (λ (r : Role). passes counts (vec_items r.rows) ≡ false) (vec_items T.roles)
 RunsOf T counts (Err NoMemory) = Unit {0}

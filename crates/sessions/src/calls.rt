@@ -15,7 +15,7 @@ pub(crate) fn begin<S: Store>(
     given: &[u32],
     numbers: &[u32],
 ) -> Reply
-    ensures { BeginsAt S.means S.space S.cost store.old store.new runs.old runs.new role given.now numbers.now result }
+    ensures { BeginsAt S.semantics store.old store.new runs.old runs.new role given.now numbers.now result }
 {
     if role >= runs.len() {
         return Reply::NoRole;
@@ -24,7 +24,7 @@ pub(crate) fn begin<S: Store>(
 }
 
 pub(crate) fn say<S: Store>(store: &mut S, runs: &mut [Run<'_>], role: usize) -> Reply
-    ensures { SaysAt S.means S.space S.cost store.old store.new runs.old runs.new role result }
+    ensures { SaysAt S.semantics store.old store.new runs.old runs.new role result }
 {
     if role >= runs.len() {
         return Reply::NoRole;
@@ -33,7 +33,7 @@ pub(crate) fn say<S: Store>(store: &mut S, runs: &mut [Run<'_>], role: usize) ->
 }
 
 pub(crate) fn hear<S: Store>(store: &mut S, runs: &mut [Run<'_>], role: usize, handle: u32) -> Reply
-    ensures { HearsAt S.means S.space S.cost store.old store.new runs.old runs.new role handle result }
+    ensures { HearsAt S.semantics store.old store.new runs.old runs.new role handle result }
 {
     if role >= runs.len() {
         return Reply::NoRole;

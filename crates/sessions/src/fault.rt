@@ -1,15 +1,20 @@
-// Why a session is not answered.
+// Why a session is not answered, and why runs are not made.
 ghost use Rattle.std.specs.Prelude.{◌≡◌};
 ghost use Rattle.sessions.specs.declared.fault.SessionFault.TheVariants as faults;
+ghost use Rattle.sessions.specs.declared.fault.RunsFault.TheVariants as runs;
+ghost use Rattle.sessions.specs.Faults.{runs_fault};
 
+use base::NoMemory;
+use program::take_up::ProgramFault;
 use roles::translation_fault::TranslationFault;
 use std::alloc::AllocError;
 
+/// Why no request is performed.
 #[derive(Clone, Copy, PartialEq, Eq, Debug)]
 pub enum SessionFault {
-    // the text is not translated, and then no request is performed
+    /// The text is not translated.
     Translation(TranslationFault),
-    // memory lacked: the requests before may have been performed
+    /// Memory lacked.
     NoMemory,
 }
 
@@ -26,5 +31,41 @@ impl From<AllocError> for SessionFault {
 
     fn from(_error: AllocError) -> SessionFault {
         SessionFault::NoMemory
+    }
+}
+
+impl From<NoMemory> for SessionFault {
+    ghost from_gives = { λ e r. r ≡ faults.NoMemory };
+
+    fn from(_lack: NoMemory) -> SessionFault {
+        SessionFault::NoMemory
+    }
+}
+
+/// Why no runs are made of a translation's roles.
+#[derive(Clone, Copy, PartialEq, Eq, Debug)]
+pub enum RunsFault {
+    /// Some role's rows do not pass the check with these counts of parts.
+    Unsound,
+    /// Memory lacked.
+    NoMemory,
+}
+
+impl From<ProgramFault> for RunsFault {
+    ghost from_gives = { λ e r. r ≡ runs_fault e };
+
+    fn from(fault: ProgramFault) -> RunsFault {
+        match fault {
+            ProgramFault::Unsound => RunsFault::Unsound,
+            ProgramFault::NoMemory(_) => RunsFault::NoMemory,
+        }
+    }
+}
+
+impl From<AllocError> for RunsFault {
+    ghost from_gives = { λ e r. r ≡ runs.NoMemory };
+
+    fn from(_error: AllocError) -> RunsFault {
+        RunsFault::NoMemory
     }
 }

@@ -18,7 +18,7 @@ pub(crate) fn tuple<S: Store>(
     room: &mut Vec<u32>,
 ) -> Reply
     requires { length parts.now ≤ vec_capacity room.old }
-    ensures made { Made S.means S.space S.cost store.old store.new (wanted (S.means store.old) tupled (handles_of past.entry.replies.now parts.now)) result }
+    ensures made { Made S.semantics store.old store.new (wanted (S.semantics.means store.old) tupled (handles_of past.entry.replies.now parts.now)) result }
     ensures capacity { vec_capacity room.new ≡ vec_capacity room.old }
 {
     past.handles(parts, room);
@@ -33,7 +33,7 @@ pub(crate) fn apply<S: Store>(
     room: &mut Vec<u32>,
 ) -> Reply
     requires { length parts.now ≤ vec_capacity room.old }
-    ensures made { Made S.means S.space S.cost store.old store.new (wanted (S.means store.old) (applied function) (handles_of past.entry.replies.now parts.now)) result }
+    ensures made { Made S.semantics store.old store.new (wanted (S.semantics.means store.old) (applied function) (handles_of past.entry.replies.now parts.now)) result }
     ensures capacity { vec_capacity room.new ≡ vec_capacity room.old }
 {
     past.handles(parts, room);

@@ -21,7 +21,7 @@ pub(crate) fn one<S: Store>(
     room: &mut Vec<u32>,
 ) -> Reply
     requires { width request.now ≤ vec_capacity room.old }
-    ensures does { Does S.means S.space S.cost store.old store.new runs.old runs.new past.entry.replies.now request.now result }
+    ensures does { Does S.semantics store.old store.new runs.old runs.new past.entry.replies.now request.now result }
     ensures capacity { vec_capacity room.new ≡ vec_capacity room.old }
 {
     match request {

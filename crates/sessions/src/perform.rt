@@ -4,16 +4,16 @@ ghost use Rattle.sessions.specs.declared.request.Request.{Request as Asked};
 ghost use Rattle.sessions.specs.Performing.{Performs, PerformsOn};
 ghost use Rattle.sessions.specs.Requests.{width};
 
-use crate::fault::SessionFault;
+use crate::fault::{RunsFault, SessionFault};
 use crate::one::one;
 use crate::past::Past;
 use crate::reply::Reply;
 use crate::request::Request;
 use crate::runs::{counts_of, runs_of};
-use program::take_up::ProgramFault;
+use base::{NoMemory, with_room};
 use roles::translate::translate;
 use run::run::Run;
-use std::alloc::{AllocError, Global};
+use std::alloc::Global;
 use store::store::Store;
 use terms::limits::Limits;
 
@@ -26,14 +26,14 @@ pub fn perform<S: Store>(
     limits: Limits,
     requests: &[Request],
 ) -> Result<Vec<Reply>, SessionFault>
-    ensures { Performs S.means S.space S.cost limits text.now requests.now store.old store.new result }
+    ensures { Performs S.semantics limits text.now requests.now store.old store.new result }
 {
     let translation = translate(heap, text, limits)?;
-    let counts = counts_of(heap, translation.declarations.functions.as_slice())?;
+    let counts = counts_of(heap, translation.declarations.functions())?;
     let mut runs = match runs_of(heap, &translation, counts.as_slice()) {
         Ok(runs) => runs,
-        Err(ProgramFault::NoMemory) => return Err(SessionFault::NoMemory),
-        Err(ProgramFault::Unsound) => unreachable!(),
+        Err(RunsFault::NoMemory) => return Err(SessionFault::NoMemory),
+        Err(RunsFault::Unsound) => unreachable!(),
     };
     Ok(perform_on(heap, store, runs.as_mut_slice(), requests)?)
 }
@@ -45,11 +45,11 @@ pub fn perform_on<S: Store>(
     store: &mut S,
     runs: &mut [Run<'_>],
     requests: &[Request],
-) -> Result<Vec<Reply>, AllocError>
-    ensures { PerformsOn S.means S.space S.cost store.old store.new runs.old runs.new requests.now result }
+) -> Result<Vec<Reply>, NoMemory>
+    ensures { PerformsOn S.semantics store.old store.new runs.old runs.new requests.now result }
 {
-    let mut room = Vec::with_capacity(heap, widest(requests))?;
-    let mut replies = Vec::with_capacity(heap, requests.len())?;
+    let mut room = with_room(heap, widest(requests))?;
+    let mut replies = with_room(heap, requests.len())?;
     for request in requests {
         let past = Past {
             replies: replies.as_slice(),

@@ -2,7 +2,6 @@
 ghost use Rattle.std.specs.Prelude.{◌≡◌};
 ghost use Rattle.sessions.specs.Requests.{width};
 
-
 // A handle: by its number, or the one that an earlier request of the list answered. One that is not there is never valid.
 #[derive(Clone, Copy)]
 pub enum Handle {

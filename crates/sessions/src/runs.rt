@@ -2,9 +2,9 @@
 ghost use Rattle.std.specs.Prelude.{◌≡◌, map, IfOk};
 ghost use Rattle.sessions.specs.Starting.{short_count, RunOf, RunsOf, AllNew};
 
+use crate::fault::RunsFault;
 use program::action::Row;
 use program::held::Program;
-use program::take_up::ProgramFault;
 use roles::role::Role;
 use roles::translation::Translation;
 use run::run::Run;
@@ -28,17 +28,13 @@ pub fn runs_of<'a>(
     heap: Global,
     translation: &'a Translation,
     counts: &'a [u8],
-) -> Result<Vec<Run<'a>>, ProgramFault>
+) -> Result<Vec<Run<'a>>, RunsFault>
     ensures { RunsOf translation.now counts.now result }
 {
     all_new(heap, translation.roles.as_slice(), counts)
 }
 
-fn all_new<'a>(
-    heap: Global,
-    roles: &'a [Role],
-    counts: &'a [u8],
-) -> Result<Vec<Run<'a>>, ProgramFault>
+fn all_new<'a>(heap: Global, roles: &'a [Role], counts: &'a [u8]) -> Result<Vec<Run<'a>>, RunsFault>
     ensures { AllNew counts.now roles.now result }
 {
     let mut runs = Vec::with_capacity(heap, roles.len())?;
@@ -49,7 +45,7 @@ fn all_new<'a>(
 }
 
 // A run of rows, if they can be held.
-fn run_of<'a>(heap: Global, rows: &'a [Row], counts: &'a [u8]) -> Result<Run<'a>, ProgramFault>
+fn run_of<'a>(heap: Global, rows: &'a [Row], counts: &'a [u8]) -> Result<Run<'a>, RunsFault>
     ensures { RunOf counts.now rows.now result }
 {
     let program = Program::from_rows(heap, rows, counts)?;

@@ -1,7 +1,6 @@
 use Rattle.std.proofs.Common.{◌≡◌, Result, arith}
-use Rattle.run.specs.declared.run.Run.{Run}
 use Rattle.run.specs.declared.fault.RunFault.{RunFault}
-use Rattle.run.specs.Called.{Begins}
+use Rattle.run.specs.Calls.{Begins}
 use Rattle.sessions.specs.declared.reply.Reply.TheVariants as replies
 use Rattle.sessions.specs.Replies.{reply_of}
 use Rattle.sessions.proofs.There.{there}
@@ -13,5 +12,5 @@ returns g c =
     let old = c.args.store.now in
     let new = c.begin.new.store in
     there old new c.args.runs.now c.args.role c.done.result
-    (λ run run'. (x : Result (Unit {0}) RunFault) × Begins g.S.Store.means g.S.Store.space g.S.Store.cost old new run run' c.args.given.now c.args.numbers.now x × (c.done.result ≡ reply_of (λ u. replies.Done) x))
+    (λ run run'. (x : Result (Unit {0}) RunFault) × Begins g.S.Store.semantics old new run run' c.args.given.now c.args.numbers.now x × (c.done.result ≡ reply_of (λ u. replies.Done) x))
     (omega arith) c.index-runs-role.result c.begin.new.self (c.begin.result, c.begin.ensures, c.done.ensures)

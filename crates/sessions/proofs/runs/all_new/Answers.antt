@@ -1,4 +1,4 @@
-use Rattle.std.proofs.Common.{rules, ◌≡◌, map, take, [], ◌∷◌, ◌++◌, get_or, subst}
+use Rattle.std.proofs.Common.{rules, map, take, [], ◌∷◌, ◌++◌, get_or, subst}
 use Rattle.std.proofs.lemmas.List.{take_more}
 use Rattle.std.proofs.lemmas.Result.{err_from_is_err_and}
 use mathlib.Core.Path.{subst⁻¹}

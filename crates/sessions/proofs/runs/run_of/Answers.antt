@@ -1,5 +1,4 @@
 use Rattle.std.proofs.Common.{map, subst}
-use mathlib.Core.Path.{subst⁻¹}
 use Rattle.run.specs.Called.{Shows}
 use Rattle.run.specs.Filling.{lined}
 use Rattle.run.specs.Plain.{new_plain}
