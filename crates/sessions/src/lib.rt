@@ -12,7 +12,7 @@ pub mod perform;
 mod questions;
 pub mod reply;
 pub mod request;
-mod runs;
+pub mod runs;
 
 // Runs of an accepted specification's programs go as the model's sessions go, and are lawful.
 pub fn plain_sessions_follow()

@@ -1,13 +1,12 @@
 // Two lists of requests, one after the other, on runs that are lent.
 use crate::ask::{begin, say};
 use crate::texts::ANSWERED;
-use program::held::Program;
 use roles::translate::translate;
 use rows::rows::Rows;
-use run::run::Run;
 use sessions::perform::perform_on;
 use sessions::reply::Reply;
 use sessions::request::{Handle, Request};
+use sessions::runs::{counts_of, runs_of};
 use std::test::Fail;
 use terms::limits::Limits;
 
@@ -16,11 +15,8 @@ fn lent(rt: HostRuntime) -> Result<(), Fail> {
     let heap = rt.alloc();
     let mut store = Rows::new(heap, 3)?;
     let translation = translate(heap, ANSWERED, Limits::standard())?;
-    let mut runs = Vec::new(heap);
-    for role in &translation.roles {
-        let program = Program::from_rows(heap, role.rows.as_slice(), &[])?;
-        runs.push(Run::new(heap, program)?)?;
-    }
+    let counts = counts_of(heap, translation.declarations.functions())?;
+    let mut runs = runs_of(heap, &translation, counts.as_slice())?;
     let first = [
         Request::Atom(1),
         begin(heap, 0, &[0], &[7])?,
