@@ -4,5 +4,5 @@
 mod memory;
 mod refusal;
 
-pub use crate::memory::{NoMemory, boxed, push, repeated, with_room};
+pub use crate::memory::{NoMemory, boxed, push, repeated, reserve, with_room};
 pub use crate::refusal::{Cause, Layer, Refusal};

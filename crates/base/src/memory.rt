@@ -1,5 +1,5 @@
 // Want of memory, and the calls that can meet it.
-ghost use Rattle.std.specs.Prelude.{◌≡◌, ◌++◌, ◌∷◌, [], ◌+◌, if◌then◌else◌, is_ok, vec_len, vec_capacity, replicate, IfOk, ◌≤◌};
+ghost use Rattle.std.specs.Prelude.{◌≡◌, ◌++◌, ◌∷◌, [], ◌+◌, if◌then◌else◌, is_ok, vec_len, vec_capacity, replicate, IfOk, OnOk, ◌≤◌};
 
 use std::alloc::Global;
 use std::error::Error;
@@ -30,6 +30,18 @@ pub fn push<T: Drop>(list: &mut Vec<T>, item: T) -> Result<(), NoMemory>
     ensures len { vec_len list.new ≡ (if is_ok result then vec_len list.old + 1 else vec_len list.old) }
 {
     match list.push(item) {
+        Ok(()) => Ok(()),
+        Err(_) => Err(NoMemory { seen: () }),
+    }
+}
+
+/// There is room for so many more items.
+pub fn reserve<T>(list: &mut Vec<T>, count: usize) -> Result<(), NoMemory>
+    ensures items { list.new.items ≡ list.old.items }
+    ensures len { vec_len list.new ≡ vec_len list.old }
+    ensures room { OnOk result (vec_len list.new + count ≤ vec_capacity list.new) }
+{
+    match list.reserve(count) {
         Ok(()) => Ok(()),
         Err(_) => Err(NoMemory { seen: () }),
     }

@@ -19,11 +19,6 @@ use Rattle.terms.specs.Declares.{Unfit, Scoped, Kinds, Done, MoreNames, MoreFunc
 use Rattle.terms.proofs.Declared.{unfit_bind, unfit_as}
 use Rattle.terms.proofs.Pushing.{scope_name, scope_function}
 
--- want of memory is nothing that a definition answers
-of_memory : (q : Result Scope DeclarationFault) (d : Declarations) (A : Type 0) (r : Result (Unit {0}) DeclarationFault) → Done A r → (A → q ≡ Ok (scope_of d)) → Scoped q d r
-of_memory q d A (Ok x) p f = f p
-of_memory q d A (Err e) p f = subst⁻¹ (Unfit q) p tt
-
 module _ (text : List ℕ) (limits : Limits) (d d' : Declarations) (a : Name) (y : Ok tt ≡ fresh text limits (vec_items d.names) a) where
   -- a name that is free
   free : (f : Unit {0} → Result Scope DeclarationFault) → bind (fresh text limits (scope_of d).names a) f ≡ f tt
@@ -34,10 +29,9 @@ module _ (text : List ℕ) (limits : Limits) (d d' : Declarations) (a : Name) (y
     abbrev named : ValueType → Result Scope DeclarationFault
     named kind = Ok (with_name text limits a (meaning.Value kind b) (scope_of d))
 
-    pub value_added : (kind : ValueType) → Ok kind ≡ kind_of text k → (r : Result (Unit {0}) DeclarationFault) → Done (MoreNames d d' (declared_name a (meaning.Value kind b))) r → Scoped (declare text limits (syntax.value a k b) (scope_of d)) d' r
-    value_added kind e r p =
-        of_memory (declare text limits (syntax.value a k b) (scope_of d)) d' _ r p
-        (λ p. free (λ _. bind (kind_of text k) named) ∙ ap (λ z. bind z named) (sym e) ∙ ap Ok (sym (scope_name text limits d d' a (meaning.Value kind b) p)))
+    pub value_added : (kind : ValueType) → Ok kind ≡ kind_of text k → MoreNames d d' (declared_name a (meaning.Value kind b)) → declare text limits (syntax.value a k b) (scope_of d) ≡ Ok (scope_of d')
+    value_added kind e p =
+        free (λ _. bind (kind_of text k) named) ∙ ap (λ z. bind z named) (sym e) ∙ ap Ok (sym (scope_name text limits d d' a (meaning.Value kind b) p))
 
   -- a function
   module _ (c : FunctionClass) (o : Name) (ps : List Name) where
@@ -47,11 +41,10 @@ module _ (text : List ℕ) (limits : Limits) (d d' : Declarations) (a : Name) (y
     abbrev resulting : ValueType → Result Scope DeclarationFault
     resulting result = bind (kinds_of text ps) (typed result)
 
-    pub function_added : (kind : ValueType) → Ok kind ≡ kind_of text o → (ks : Vec ValueType Global) → Kinds text ps (Ok ks) → (r : Result (Unit {0}) DeclarationFault)
-        → Done (MoreFunctions d d' (function_name a (vec_len d.functions)) (function_row a c kind ks)) r → Scoped (declare text limits (syntax.function a c o ps) (scope_of d)) d' r
-    function_added kind e ks k r p =
-        of_memory (declare text limits (syntax.function a c o ps) (scope_of d)) d' _ r p
-        (λ p. free (λ _. bind (kind_of text o) resulting) ∙ ap (λ z. bind z resulting) (sym e) ∙ ap (λ z. bind z (typed kind)) k ∙ ap Ok (sym (scope_function text limits d d' a c kind ks p)))
+    pub function_added : (kind : ValueType) → Ok kind ≡ kind_of text o → (ks : Vec ValueType Global) → Kinds text ps (Ok ks)
+        → MoreFunctions d d' (function_name a (vec_len d.functions)) (function_row a c kind ks) → declare text limits (syntax.function a c o ps) (scope_of d) ≡ Ok (scope_of d')
+    function_added kind e ks k p =
+        free (λ _. bind (kind_of text o) resulting) ∙ ap (λ z. bind z resulting) (sym e) ∙ ap (λ z. bind z (typed kind)) k ∙ ap Ok (sym (scope_function text limits d d' a c kind ks p))
 
 -- the first of the things that are left, by its view
 pub left_at : {A B : Type 0} (view : A → B) (xs : List A) (i : ℕ) (x : A) → i < length xs → x ≡ get_or xs i x → map view (drop i xs) ≡ view x ∷ map view (drop (i + 1) xs)

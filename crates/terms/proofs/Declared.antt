@@ -26,7 +26,7 @@ unfit_bind q g (Limit p) e = ap (λ z. bind z g) e
 unfit_bind q g (Redeclared p) e = ap (λ z. bind z g) e
 unfit_bind q g (Undeclared p) e = ap (λ z. bind z g) e
 unfit_bind q g (WrongType p) e = ap (λ z. bind z g) e
-unfit_bind q g NoMemory e = tt
+unfit_bind q g (NoMemory w) e = tt
 
 pub unfit_as : {A : Type 0} (q q' : Result A DeclarationFault) (f : DeclarationFault) → q' ≡ q → Unfit q f → Unfit q' f
 unfit_as q q' f e u = subst⁻¹ (λ z. Unfit z f) e u
@@ -36,7 +36,7 @@ pub unfit_term : (text : List ℕ) (most : ℕ) (t : Term) (S : Scope) (g : Scop
 unfit_term text most t S g (term_fault.Limit p) e = ap (λ z. bind (in_declaration z) g) e
 unfit_term text most t S g (term_fault.Undeclared p) e = ap (λ z. bind (in_declaration z) g) e
 unfit_term text most t S g (term_fault.WrongType p) e = ap (λ z. bind (in_declaration z) g) e
-unfit_term text most t S g term_fault.NoMemory e = tt
+unfit_term text most t S g (term_fault.NoMemory w) e = tt
 
 module _ (text : List ℕ) (limits : Limits) (d : Declarations) (who : Option ℕ) (t : Term) where
   abbrev known_by : Option ℕ → Result Scope DeclarationFault

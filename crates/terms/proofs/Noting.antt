@@ -118,4 +118,4 @@ module _ (t t' : TermTable) (us : List Tree) (l : Lists t us) (s : Shape) (b : A
       ∙ ap (λ p. Err (Limit p)) (sym i.0)
   noting (Err (Undeclared q)) small i = absurd i
   noting (Err (WrongType q)) small i = absurd i
-  noting (Err NoMemory) small i = tt
+  noting (Err (NoMemory w)) small i = tt

@@ -31,7 +31,7 @@ refused_next : (f : TermFault) (g : List Tree → Result (List Tree) TermFault) 
 refused_next (Limit p) g q e = ap (λ z. next z g) e
 refused_next (Undeclared p) g q e = ap (λ z. next z g) e
 refused_next (WrongType p) g q e = ap (λ z. next z g) e
-refused_next NoMemory g q e = tt
+refused_next (NoMemory w) g q e = tt
 
 refused_as : (f : TermFault) (q r : Result (List Tree) TermFault) → q ≡ r → Refused r f → Refused q f
 refused_as f q r e h = subst⁻¹ (λ z. Refused z f) e h
@@ -51,7 +51,7 @@ module _ (t t' : TermTable) (s : shapes.Shape) (most at : ℕ) where
   grows_interned (Err (Limit p)) i = grows_refused t t' i.1
   grows_interned (Err (Undeclared p)) i = absurd i
   grows_interned (Err (WrongType p)) i = absurd i
-  grows_interned (Err NoMemory) i = grows_refused t t' i
+  grows_interned (Err (NoMemory w)) i = grows_refused t t' i
 
 -- the whole, behind its parts
 module _ (t t' : TermTable) (h : Head) (ks : List ℕ) (u : Tree) (most at : ℕ) (r : Result ℕ TermFault) (small : most ≤ 65536) (i : Interned (vec_items t.rows) (vec_items t'.rows) (formed h ks) most at r) where

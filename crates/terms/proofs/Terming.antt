@@ -6,6 +6,7 @@ use Rattle.model.specs.Trees.{Tree}
 use Rattle.text.specs.declared.part.Part.{Part}
 use Rattle.syntax.specs.declared.spec.Name.{Name}
 use Rattle.syntax.specs.Specs.{Term, name, tuple, crypt, apply, Terms, none, more, count}
+use Rattle.base.specs.declared.memory.NoMemory.{NoMemory as Lack}
 use Rattle.terms.specs.declared.declarations.Declarations.{Declarations}
 use Rattle.terms.specs.declared.declarations.Declared.{Declared}
 use Rattle.terms.specs.declared.declarations.Meaning.{Meaning}
@@ -110,58 +111,59 @@ scope_back d d' s t e =
     (ap vec_items s.rights) (same_trees d.terms t e)
 
 -- no memory is wanted for the types
-no_memory : (a b : Result (Unit {0}) TermFault) → (a ≡ Err NoMemory → ⊥) → (b ≡ Err NoMemory → ⊥) → and_then a b ≡ Err NoMemory → ⊥
-no_memory (Ok x) b f g e = g e
-no_memory (Err y) b f g e = f e
+module _ (lack : Lack) where
+  no_memory : (a b : Result (Unit {0}) TermFault) → (a ≡ Err (NoMemory lack) → ⊥) → (b ≡ Err (NoMemory lack) → ⊥) → and_then a b ≡ Err (NoMemory lack) → ⊥
+  no_memory (Ok x) b f g e = g e
+  no_memory (Err y) b f g e = f e
 
-fits_no_memory : (at : ℕ) (found wanted : ValueType) → fits at found wanted ≡ Err NoMemory → ⊥
-fits_no_memory at found wanted e = go (stands_for found wanted) e
-  where
-    go : (b : Bool) → cond {A = Result (Unit {0}) TermFault} b (Ok tt) (Err (WrongType at)) ≡ Err NoMemory → ⊥
-    go true e = absurd (cc)
-    go false e = absurd (cc)
-
-module _ (text : List ℕ) (S : Scope) where
-  name_no_memory : (at : ℕ) (o : Option Meaning) (w : ValueType) → name_fits at o w ≡ Err NoMemory → ⊥
-  name_no_memory at None w e = absurd (cc)
-  name_no_memory at (Some (meaning.Value kind shared)) w e = fits_no_memory at kind w e
-  name_no_memory at (Some (meaning.Function f)) w e = absurd (cc)
-
-  apply_no_memory : (at k : ℕ) (w : ValueType) (n : Name) (f : List ValueType → Result (Unit {0}) TermFault) (o : Option Meaning) → ((ws : List ValueType) → f ws ≡ Err NoMemory → ⊥) → applied_fits at k w (applied S.functions n o) f ≡ Err NoMemory → ⊥
-  apply_no_memory at k w n f None h e = absurd (cc)
-  apply_no_memory at k w n f (Some (meaning.Value kind shared)) h e = absurd (cc)
-  apply_no_memory at k w n f (Some (meaning.Function g)) h e = go (get_or S.functions g no_function) (k == length (get_or S.functions g no_function).parameters) e
+  fits_no_memory : (at : ℕ) (found wanted : ValueType) → fits at found wanted ≡ Err (NoMemory lack) → ⊥
+  fits_no_memory at found wanted e = go (stands_for found wanted) e
     where
-      go : (s : Signature) (b : Bool) → cond b (and_then (fits at s.result w) (f s.parameters)) (Err (WrongType at)) ≡ Err NoMemory → ⊥
-      go s true e = no_memory (fits at s.result w) (f s.parameters) (fits_no_memory at s.result w) (h s.parameters) e
-      go s false e = absurd (cc)
+      go : (b : Bool) → cond {A = Result (Unit {0}) TermFault} b (Ok tt) (Err (WrongType at)) ≡ Err (NoMemory lack) → ⊥
+      go true e = absurd (cc)
+      go false e = absurd (cc)
 
-  mutual
-    typed_no_memory : (t : Term) (w : ValueType) → typed text S t w ≡ Err NoMemory → ⊥
-    typed_no_memory (name at p) w e = name_no_memory at (meaning_of text S.names p) w e
-    typed_no_memory (tuple at ts) w e = no_memory (fits at Number w) (typed_all text S ts []) (fits_no_memory at Number w) (all_no_memory ts []) e
-    typed_no_memory (crypt at t k) w e =
-        no_memory (fits at Number w) (and_then (typed text S t Number) (typed text S k Number)) (fits_no_memory at Number w)
-        (no_memory (typed text S t Number) (typed text S k Number) (typed_no_memory t Number) (typed_no_memory k Number)) e
-    typed_no_memory (apply at f ts) w e = apply_no_memory at (count ts) w f (typed_all text S ts) (meaning_of text S.names f.part) (λ ws. all_no_memory ts ws) e
+  module _ (text : List ℕ) (S : Scope) where
+    name_no_memory : (at : ℕ) (o : Option Meaning) (w : ValueType) → name_fits at o w ≡ Err (NoMemory lack) → ⊥
+    name_no_memory at None w e = absurd (cc)
+    name_no_memory at (Some (meaning.Value kind shared)) w e = fits_no_memory at kind w e
+    name_no_memory at (Some (meaning.Function f)) w e = absurd (cc)
 
-    all_no_memory : (ts : Terms) (ws : List ValueType) → typed_all text S ts ws ≡ Err NoMemory → ⊥
-    all_no_memory none ws e = absurd (cc)
-    all_no_memory (more t ts) [] e = no_memory (typed text S t Number) (typed_all text S ts []) (typed_no_memory t Number) (all_no_memory ts []) e
-    all_no_memory (more t ts) (w ∷ ws) e = no_memory (typed text S t w) (typed_all text S ts ws) (typed_no_memory t w) (all_no_memory ts ws) e
+    apply_no_memory : (at k : ℕ) (w : ValueType) (n : Name) (f : List ValueType → Result (Unit {0}) TermFault) (o : Option Meaning) → ((ws : List ValueType) → f ws ≡ Err (NoMemory lack) → ⊥) → applied_fits at k w (applied S.functions n o) f ≡ Err (NoMemory lack) → ⊥
+    apply_no_memory at k w n f None h e = absurd (cc)
+    apply_no_memory at k w n f (Some (meaning.Value kind shared)) h e = absurd (cc)
+    apply_no_memory at k w n f (Some (meaning.Function g)) h e = go (get_or S.functions g no_function) (k == length (get_or S.functions g no_function).parameters) e
+      where
+        go : (s : Signature) (b : Bool) → cond b (and_then (fits at s.result w) (f s.parameters)) (Err (WrongType at)) ≡ Err (NoMemory lack) → ⊥
+        go s true e = no_memory (fits at s.result w) (f s.parameters) (fits_no_memory at s.result w) (h s.parameters) e
+        go s false e = absurd (cc)
+
+    mutual
+      typed_no_memory : (t : Term) (w : ValueType) → typed text S t w ≡ Err (NoMemory lack) → ⊥
+      typed_no_memory (name at p) w e = name_no_memory at (meaning_of text S.names p) w e
+      typed_no_memory (tuple at ts) w e = no_memory (fits at Number w) (typed_all text S ts []) (fits_no_memory at Number w) (all_no_memory ts []) e
+      typed_no_memory (crypt at t k) w e =
+          no_memory (fits at Number w) (and_then (typed text S t Number) (typed text S k Number)) (fits_no_memory at Number w)
+          (no_memory (typed text S t Number) (typed text S k Number) (typed_no_memory t Number) (typed_no_memory k Number)) e
+      typed_no_memory (apply at f ts) w e = apply_no_memory at (count ts) w f (typed_all text S ts) (meaning_of text S.names f.part) (λ ws. all_no_memory ts ws) e
+
+      all_no_memory : (ts : Terms) (ws : List ValueType) → typed_all text S ts ws ≡ Err (NoMemory lack) → ⊥
+      all_no_memory none ws e = absurd (cc)
+      all_no_memory (more t ts) [] e = no_memory (typed text S t Number) (typed_all text S ts []) (typed_no_memory t Number) (all_no_memory ts []) e
+      all_no_memory (more t ts) (w ∷ ws) e = no_memory (typed text S t w) (typed_all text S ts ws) (typed_no_memory t w) (all_no_memory ts ws) e
 
 -- a term whose types are not good
 pub not_checked : (text : List ℕ) (most : ℕ) (t : Term) (S : Scope) (f : TermFault) → Err f ≡ typed text S t Number → Termed text most t S S (Err f)
 not_checked text most t S (Limit p) c = (ap (λ z. and_then z (with_terms text S (read text S.names most t S.terms))) (sym c), refl)
 not_checked text most t S (Undeclared p) c = (ap (λ z. and_then z (with_terms text S (read text S.names most t S.terms))) (sym c), refl)
 not_checked text most t S (WrongType p) c = (ap (λ z. and_then z (with_terms text S (read text S.names most t S.terms))) (sym c), refl)
-not_checked text most t S NoMemory c = absurd (typed_no_memory text S t Number (sym c))
+not_checked text most t S (NoMemory w) c = absurd (typed_no_memory w text S t Number (sym c))
 
 refused_terms : (text : List ℕ) (most : ℕ) (t : Term) (S : Scope) (f : TermFault) → Ok tt ≡ typed text S t Number → TermRefused (read text S.names most t S.terms) f → Refused text most t S f
 refused_terms text most t S (Limit p) c e = ap (λ z. and_then z (with_terms text S (read text S.names most t S.terms))) (sym c) ∙ ap (with_terms text S) e
 refused_terms text most t S (Undeclared p) c e = ap (λ z. and_then z (with_terms text S (read text S.names most t S.terms))) (sym c) ∙ ap (with_terms text S) e
 refused_terms text most t S (WrongType p) c e = ap (λ z. and_then z (with_terms text S (read text S.names most t S.terms))) (sym c) ∙ ap (with_terms text S) e
-refused_terms text most t S NoMemory c e = sym c
+refused_terms text most t S (NoMemory w) c e = sym c
 
 -- a term that was checked, and then numbered
 module _ (text : List ℕ) (d d' : Declarations) (most : ℕ) (t : Term) (small : most ≤ 65536) (c : Ok tt ≡ typed text (scope_of d) t Number) where

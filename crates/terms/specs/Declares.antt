@@ -14,6 +14,7 @@ use Rattle.syntax.specs.declared.symbol.FunctionClass.{FunctionClass}
 use Rattle.terms.specs.declared.limits.Limits.{Limits}
 use Rattle.terms.specs.declared.fault.DeclarationFault.{DeclarationFault}
 use Rattle.terms.specs.declared.fault.DeclarationFault.TheVariants.{Limit, Redeclared, Undeclared, WrongType, NoMemory}
+use Rattle.base.specs.declared.memory.NoMemory.{NoMemory as Lack}
 use Rattle.terms.specs.Scope.{Scope}
 use Rattle.terms.specs.Declaring.{kinds_of, known, declare, declared}
 use Rattle.terms.specs.Meanings.{scope_of}
@@ -24,7 +25,7 @@ Unfit q (Limit p) = q ≡ Err (Limit p)
 Unfit q (Redeclared p) = q ≡ Err (Redeclared p)
 Unfit q (Undeclared p) = q ≡ Err (Undeclared p)
 Unfit q (WrongType p) = q ≡ Err (WrongType p)
-Unfit q NoMemory = Unit {0}
+Unfit q (NoMemory w) = Unit {0}
 
 -- the declarations that come out, or the fault
 abbrev pub Scoped : Result Scope DeclarationFault → Declarations → Result (Unit {0}) DeclarationFault → Type 0
@@ -37,9 +38,9 @@ Kinds text ns (Ok v) = kinds_of text ns ≡ Ok (vec_items v)
 Kinds text ns (Err f) = Unfit (kinds_of text ns) f
 
 -- it is done, or there was no memory
-abbrev pub Done : Type 0 → Result (Unit {0}) DeclarationFault → Type 0
+abbrev pub Done : Type 0 → Result (Unit {0}) Lack → Type 0
 Done P (Ok x) = P
-Done P (Err f) = f ≡ NoMemory
+Done P (Err w) = Unit {0}
 
 -- the rows of a name and of a function
 abbrev pub declared_name : Name → Meaning → Declared

@@ -34,7 +34,7 @@ abbrev pub Unchanged : List TermRow → List TermRow → Shape → ℕ → ℕ �
 Unchanged rows rows' s most p (Limit q) = (q ≡ p) × (rows' ≡ rows) × (most ≤ length rows ⊎ 65535 < length rows) × ((k : ℕ) → k < length rows → shape_of (row_at rows k) ≢ s)
 Unchanged rows rows' s most p (Undeclared q) = ⊥
 Unchanged rows rows' s most p (WrongType q) = ⊥
-Unchanged rows rows' s most p NoMemory = rows' ≡ rows
+Unchanged rows rows' s most p (NoMemory w) = rows' ≡ rows
 
 abbrev pub Interned : List TermRow → List TermRow → Shape → ℕ → ℕ → Result ℕ TermFault → Type 0
 Interned rows rows' s most p (Ok k) = Numbers rows rows' s k × Added rows rows' s most k

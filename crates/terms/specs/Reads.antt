@@ -27,7 +27,7 @@ abbrev pub Refused : {A : Type 0} → Result A TermFault → TermFault → Type 
 Refused q (Limit p) = q ≡ Err (Limit p)
 Refused q (Undeclared p) = q ≡ Err (Undeclared p)
 Refused q (WrongType p) = q ≡ Err (WrongType p)
-Refused q NoMemory = Unit {0}
+Refused q (NoMemory w) = Unit {0}
 
 -- the terms that were read stand in the table
 pub record Noted (t : TermTable) (q : Result (List Tree) TermFault) : Type 0 where

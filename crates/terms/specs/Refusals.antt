@@ -14,11 +14,11 @@ declaration_refusal (declaration.Limit p) = refuse causes.Limit Declarations p
 declaration_refusal (declaration.Redeclared p) = refuse causes.Redeclared Declarations p
 declaration_refusal (declaration.Undeclared p) = refuse causes.Undeclared Declarations p
 declaration_refusal (declaration.WrongType p) = refuse causes.WrongType Declarations p
-declaration_refusal declaration.NoMemory = None
+declaration_refusal (declaration.NoMemory w) = None
 
 -- a term's fault in a declaration
 abbrev pub to_declaration : TermFault → DeclarationFault
 to_declaration (term.Limit p) = declaration.Limit p
 to_declaration (term.Undeclared p) = declaration.Undeclared p
 to_declaration (term.WrongType p) = declaration.WrongType p
-to_declaration term.NoMemory = declaration.NoMemory
+to_declaration (term.NoMemory w) = declaration.NoMemory w

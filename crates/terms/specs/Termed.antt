@@ -17,7 +17,7 @@ module _ (text : List ℕ) (most : ℕ) (t : Term) (S : Scope) where
   Refused (Limit p) = with_term text most t S ≡ Err (Limit p)
   Refused (Undeclared p) = with_term text most t S ≡ Err (Undeclared p)
   Refused (WrongType p) = with_term text most t S ≡ Err (WrongType p)
-  Refused NoMemory = typed text S t Number ≡ Ok tt
+  Refused (NoMemory w) = typed text S t Number ≡ Ok tt
 
   -- the scope has the term then, and its number is its place among the terms; a refusal leaves the scope as it was
   abbrev pub Termed : Scope → Result ℕ TermFault → Type 0

@@ -9,6 +9,7 @@ ghost use Rattle.terms.specs.Declares.{Done, MoreNames, MoreFunctions, Kinds, Kn
 use crate::declarations::{Declarations, Declared, Function, Meaning, Right, Start, ValueType};
 use crate::fault::DeclarationFault;
 use crate::limits::Limits;
+use base::{NoMemory, push, reserve};
 use std::alloc::Global;
 use syntax::spec::{Declaration, Name, Spec, Term};
 use syntax::symbol::FunctionClass;
@@ -46,7 +47,7 @@ impl Declarations {
             Declaration::Value { name, kind, shared } => {
                 self.unused(reading, *name)?;
                 let kind = type_of(reading.text, *kind)?;
-                self.value(*name, kind, *shared)
+                Ok(self.value(*name, kind, *shared)?)
             }
             Declaration::Function {
                 name,
@@ -57,7 +58,7 @@ impl Declarations {
                 self.unused(reading, *name)?;
                 let result = type_of(reading.text, *result)?;
                 let parameters = read_parameters(reading, parameters)?;
-                self.function(*name, *class, result, parameters)
+                Ok(self.function(*name, *class, result, parameters)?)
             }
             Declaration::Knows { knower, term } => {
                 let knower = self.principal(reading.text, *knower)?;
@@ -83,14 +84,13 @@ impl Declarations {
     }
 
     // Called behind `unused`, which saw that there is room.
-    fn value(&mut self, name: Name, kind: ValueType, shared: bool) -> Result<(), DeclarationFault>
+    fn value(&mut self, name: Name, kind: ValueType, shared: bool) -> Result<(), NoMemory>
         requires { vec_len self.old.names < 128 }
         ensures { Done (MoreNames self.old self.new (declared_name name (Value kind shared))) result }
     {
-        self.names.push(Declared {
-            name: name.part,
-            meaning: Meaning::Value { kind, shared },
-        })?;
+        let meaning = Meaning::Value { kind, shared };
+        let name = name.part;
+        push(&mut self.names, Declared { name, meaning })?;
         Ok(())
     }
 
@@ -100,18 +100,17 @@ impl Declarations {
         class: FunctionClass,
         res: ValueType,
         parameters: Vec<ValueType>,
-    ) -> Result<(), DeclarationFault>
+    ) -> Result<(), NoMemory>
         requires { vec_len self.old.names < 128 }
         ensures { Done (MoreFunctions self.old self.new (function_name name (vec_len self.old.functions)) (function_row name class res parameters)) result }
     {
         let number = self.functions.len() as u8;
-        self.functions.reserve(1)?;
-        self.names.push(Declared {
-            name: name.part,
-            meaning: Meaning::Function(number),
-        })?;
+        reserve(&mut self.functions, 1)?;
+        let meaning = Meaning::Function(number);
+        let name = name.part;
+        push(&mut self.names, Declared { name, meaning })?;
         self.functions.push_reserved(Function {
-            name: name.part,
+            name,
             class,
             result: res,
             parameters,
@@ -129,11 +128,11 @@ impl Declarations {
         ensures { Knowing reading.entry.text.now reading.entry.limits self.old self.new knower (term_of term.now) result }
     {
         if let Some(function) = self.right(reading.text, term) {
-            self.rights.push(Right { knower, function })?;
+            push(&mut self.rights, Right { knower, function })?;
             return Ok(());
         }
         let term = self.term(reading.text, term, reading.limits)?;
-        self.starts.push(Start { knower, term })?;
+        push(&mut self.starts, Start { knower, term })?;
         Ok(())
     }
 
@@ -164,7 +163,7 @@ fn read_parameters(reading: Reading, names: &[Name]) -> Result<Vec<ValueType>, D
 {
     let mut parameters = Vec::new(reading.heap);
     for name in names {
-        parameters.push(type_of(reading.text, *name)?)?;
+        push(&mut parameters, type_of(reading.text, *name)?)?;
     }
     Ok(parameters)
 }

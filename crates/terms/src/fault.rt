@@ -4,8 +4,7 @@ ghost use Rattle.terms.specs.Refusals.{declaration_refusal, to_declaration};
 ghost use Rattle.terms.specs.declared.fault.TermFault.TheVariants as term_faults;
 ghost use Rattle.terms.specs.declared.fault.DeclarationFault.TheVariants as declaration_faults;
 
-use base::{Cause, Layer, Refusal};
-use std::alloc::{AllocError, AllocFailed};
+use base::{Cause, Layer, NoMemory, Refusal};
 
 // A term is refused, in a declaration or in a line.
 #[derive(Clone, Copy, PartialEq, Eq, Debug)]
@@ -15,15 +14,15 @@ pub enum TermFault {
     Undeclared { at: usize },
     // a wrong type, a wrong count of arguments, or a function as a term
     WrongType { at: usize },
-    NoMemory,
+    /// memory lacked
+    NoMemory(NoMemory),
 }
 
-// `?` asks for this of each type of error.
-impl<T: Drop> From<AllocFailed<T>> for TermFault {
-    ghost from_gives = { λ _ r. r ≡ term_faults.NoMemory };
+impl From<NoMemory> for TermFault {
+    ghost from_gives = { λ e r. r ≡ term_faults.NoMemory e };
 
-    fn from(_refused: AllocFailed<T>) -> TermFault {
-        TermFault::NoMemory
+    fn from(lack: NoMemory) -> TermFault {
+        TermFault::NoMemory(lack)
     }
 }
 
@@ -35,7 +34,8 @@ pub enum DeclarationFault {
     Undeclared { at: usize },
     // an unknown or wrong type, a wrong count of arguments, or a function as a term
     WrongType { at: usize },
-    NoMemory,
+    /// memory lacked
+    NoMemory(NoMemory),
 }
 
 impl DeclarationFault {
@@ -48,7 +48,7 @@ impl DeclarationFault {
             DeclarationFault::Redeclared { at } => (Cause::Redeclared, at),
             DeclarationFault::Undeclared { at } => (Cause::Undeclared, at),
             DeclarationFault::WrongType { at } => (Cause::WrongType, at),
-            DeclarationFault::NoMemory => return None,
+            DeclarationFault::NoMemory(_) => return None,
         };
         Some(Refusal {
             cause,
@@ -66,24 +66,15 @@ impl From<TermFault> for DeclarationFault {
             TermFault::Limit { at } => DeclarationFault::Limit { at },
             TermFault::Undeclared { at } => DeclarationFault::Undeclared { at },
             TermFault::WrongType { at } => DeclarationFault::WrongType { at },
-            TermFault::NoMemory => DeclarationFault::NoMemory,
+            TermFault::NoMemory(lack) => DeclarationFault::NoMemory(lack),
         }
     }
 }
 
-// `?` asks for this of each type of error.
-impl<T: Drop> From<AllocFailed<T>> for DeclarationFault {
-    ghost from_gives = { λ _ r. r ≡ declaration_faults.NoMemory };
+impl From<NoMemory> for DeclarationFault {
+    ghost from_gives = { λ e r. r ≡ declaration_faults.NoMemory e };
 
-    fn from(_refused: AllocFailed<T>) -> DeclarationFault {
-        DeclarationFault::NoMemory
-    }
-}
-
-impl From<AllocError> for DeclarationFault {
-    ghost from_gives = { λ _ r. r ≡ declaration_faults.NoMemory };
-
-    fn from(_error: AllocError) -> DeclarationFault {
-        DeclarationFault::NoMemory
+    fn from(lack: NoMemory) -> DeclarationFault {
+        DeclarationFault::NoMemory(lack)
     }
 }

@@ -8,6 +8,7 @@ ghost use Rattle.terms.specs.Interned.{Fits, Interned, Absent, At};
 
 use crate::fault::TermFault;
 use crate::term::TermRow;
+use base::push;
 use program::kind::Kind;
 use program::parts::Parts;
 use std::alloc::Global;
@@ -102,7 +103,7 @@ impl TermTable {
         if term >= most || term > 65535 {
             return Err(TermFault::Limit { at });
         }
-        self.rows.push(row)?;
+        push(&mut self.rows, row)?;
         Ok(term as u16)
     }
 }

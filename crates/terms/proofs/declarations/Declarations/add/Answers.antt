@@ -2,14 +2,14 @@ use Rattle.std.proofs.Common.{vec_items}
 use Rattle.terms.proofs.Adding.{value_added, function_added}
 use Rattle.terms.proofs.declarations.Declarations.add.Goals as goal
 
-pub returns-in_ok-kind-in-Value : goal.returns-in_ok-kind-in-Value
-returns-in_ok-kind-in-Value c =
+pub returns-in_ok-value-in-Value : goal.returns-in_ok-value-in-Value
+returns-in_ok-value-in-Value c =
     rw c.in-Value.is
     (value_added c.args.reading.text.now c.args.reading.limits c.args.self.now c.value.new.self c.in-Value.name c.in_ok-unused-in-Value.ensures.unused c.in-Value.kind c.in-Value.shared
-    c.in_ok-kind-in-Value.kind c.in_ok-kind-in-Value.ensures c.value.result c.value.ensures)
+    c.in_ok-kind-in-Value.kind c.in_ok-kind-in-Value.ensures c.in_ok-value-in-Value.ensures)
 
-pub returns-in_ok-parameters-in-Function : goal.returns-in_ok-parameters-in-Function
-returns-in_ok-parameters-in-Function c =
+pub returns-in_ok-function-in-Function : goal.returns-in_ok-function-in-Function
+returns-in_ok-function-in-Function c =
     rw c.in-Function.is
     (function_added c.args.reading.text.now c.args.reading.limits c.args.self.now c.function.new.self c.in-Function.name c.in_ok-unused-in-Function.ensures.unused c.in-Function.class c.in-Function.result (vec_items c.in-Function.parameters)
-    c.in_ok-result-in-Function.result c.in_ok-result-in-Function.ensures c.in_ok-parameters-in-Function.parameters (rw c.deref.ensures.value at c.in_ok-parameters-in-Function.ensures) c.function.result c.function.ensures)
+    c.in_ok-result-in-Function.result c.in_ok-result-in-Function.ensures c.in_ok-parameters-in-Function.parameters (rw c.deref.ensures.value at c.in_ok-parameters-in-Function.ensures) c.in_ok-function-in-Function.ensures)

@@ -26,8 +26,8 @@ loop-row-preserved c =
           ])
     ]
 
-pub returns-clause-made : goal.returns-clause-made
-returns-clause-made c =
+pub returns : goal.returns
+returns c =
     let t = c.args.self.now.terms in
     c.loop-row.invariant
     ∙ ap (filter_map (made_name (vec_items c.args.self.now.names))) (take_all c.loop-row.row-index c.since-row-items.result.now c.loop-row-test.false ∙ c.since-row-items.ensures)

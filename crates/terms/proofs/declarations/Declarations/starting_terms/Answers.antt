@@ -16,5 +16,4 @@ returns c =
     record {
       below = subst⁻¹ (AllBelow (size t)) e (starting_below c.args.name (size t) (vec_items c.args.self.now.starts) c.args.self.now.started);
       given = ap (map (tree_in t)) e ∙ starting_given c.args.name t (vec_items c.args.self.now.starts);
-      refused = tt;
     }
