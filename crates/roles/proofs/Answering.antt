@@ -48,7 +48,7 @@ module _ (limits : Limits) (bytes : List ℕ) where
       declarations_refused (declaration.Redeclared at) e = inl (from_spec ∙ ap (λ o. bind (refused_by Declarations o) (with_scope S)) e)
       declarations_refused (declaration.Undeclared at) e = inl (from_spec ∙ ap (λ o. bind (refused_by Declarations o) (with_scope S)) e)
       declarations_refused (declaration.WrongType at) e = inl (from_spec ∙ ap (λ o. bind (refused_by Declarations o) (with_scope S)) e)
-      declarations_refused declaration.NoMemory e = inr refl
+      declarations_refused (declaration.NoMemory w) e = inr refl
 
       module _ (U : Scope) (eu : declared bytes limits S ≡ Ok U) where
         from_scope : translation limits bytes ≡ with_scope S U

@@ -38,7 +38,7 @@ module _ (at name term : ℕ) where
   no_term (faults.Limit p) e = absurd (cc)
   no_term (faults.Undeclared p) e = absurd (cc)
   no_term (faults.WrongType p) e = absurd (cc)
-  no_term faults.NoMemory e = absurd (cc)
+  no_term (faults.NoMemory w) e = absurd (cc)
 
   no_step : {A : Type 0} (r : Result A TermFault) → refused_by to_line r ≡ Err underivable → ⊥
   no_step (Ok x) e = absurd (cc)

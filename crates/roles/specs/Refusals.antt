@@ -27,7 +27,7 @@ abbrev pub to_line : TermFault → LineFault
 to_line (term.Limit p) = line.Limit p
 to_line (term.Undeclared p) = line.Undeclared p
 to_line (term.WrongType p) = line.WrongType p
-to_line term.NoMemory = line.NoMemory
+to_line (term.NoMemory w) = line.NoMemory
 
 abbrev pub translation_refusal : TranslationFault → Option Refusal
 translation_refusal (Text f) = text_refusal f

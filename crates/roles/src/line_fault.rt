@@ -51,7 +51,7 @@ impl From<TermFault> for LineFault {
             TermFault::Limit { at } => LineFault::Limit { at },
             TermFault::Undeclared { at } => LineFault::Undeclared { at },
             TermFault::WrongType { at } => LineFault::WrongType { at },
-            TermFault::NoMemory => LineFault::NoMemory,
+            TermFault::NoMemory(_) => LineFault::NoMemory,
         }
     }
 }
@@ -69,6 +69,14 @@ impl From<AllocError> for LineFault {
     ghost from_gives = { λ _ r. r ≡ line_faults.NoMemory };
 
     fn from(_error: AllocError) -> LineFault {
+        LineFault::NoMemory
+    }
+}
+
+impl From<base::NoMemory> for LineFault {
+    ghost from_gives = { λ _ r. r ≡ line_faults.NoMemory };
+
+    fn from(_lack: base::NoMemory) -> LineFault {
         LineFault::NoMemory
     }
 }

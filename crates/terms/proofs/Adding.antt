@@ -1,6 +1,5 @@
 -- A declaration by its form, and all of them.
 use Rattle.std.proofs.Common.{◌≡◌, ℕ, ◌+◌, ◌<◌, Bool, List, ◌∷◌, length, get_or, map, drop, Ok, Err, Vec, vec_items, vec_len, Result, sym, ap, ◌∙◌}
-use mathlib.Core.Path.{subst⁻¹}
 use Rattle.std.specs.declared.alloc.Global.{Global}
 use Rattle.std.proofs.lemmas.List.{at_drop_more}
 use Rattle.syntax.specs.declared.spec.Name.{Name}
@@ -15,7 +14,7 @@ use Rattle.terms.specs.declared.limits.Limits.{Limits}
 use Rattle.terms.specs.Scope.{Scope, nothing_declared}
 use Rattle.terms.specs.Declaring.{bind, kind_of, kinds_of, fresh, with_name, with_function, declare, declare_all}
 use Rattle.terms.specs.Meanings.{scope_of}
-use Rattle.terms.specs.Declares.{Unfit, Scoped, Kinds, Done, MoreNames, MoreFunctions, declared_name, function_name, function_row, Declaring}
+use Rattle.terms.specs.Declares.{Unfit, Kinds, MoreNames, MoreFunctions, declared_name, function_name, function_row, Declaring}
 use Rattle.terms.proofs.Declared.{unfit_bind, unfit_as}
 use Rattle.terms.proofs.Pushing.{scope_name, scope_function}
 

@@ -44,7 +44,7 @@ returns-in_err-say c =
     let d' = c.term.new.self in
     let w = c.in_ok-term.ensures.termed in
     let p = err_from_is_err_and c.from_residual-in_err-say.result c.from_residual-in_err-say.ensures.1 in
-    let those = made_there (scope_of d) (scope_of d') c.as_slice.ensures.value c.in_ok-made.ensures.made (rw c.terms.ensures at c.len-before.ensures) (lists_of d.terms).long in record {
+    let those = made_there (scope_of d) (scope_of d') c.as_slice.ensures.value c.in_ok-made.ensures (rw c.terms.ensures at c.len-before.ensures) (lists_of d.terms).long in record {
       keeps = rw p.1 tt;
       comes =
           rw (p.1, p.2)
@@ -68,7 +68,7 @@ returns c =
     let n = length-set rs c.args.sender c.say.new.self in
     let h = c.requires.receiver in
     let f = all_fit_after d.terms d'.terms g rs c.requires.fit c.args.sender c.say.new.self (rw c.terms-table.ensures at c.in_ok-say.ensures.fits) in
-    let those = made_there (scope_of d) (scope_of d') c.as_slice.ensures.value c.in_ok-made.ensures.made (rw c.terms.ensures at c.len-before.ensures) (lists_of d.terms).long in record {
+    let those = made_there (scope_of d) (scope_of d') c.as_slice.ensures.value c.in_ok-made.ensures (rw c.terms.ensures at c.len-before.ensures) (lists_of d.terms).long in record {
       keeps = all_keep_set d'.terms _ c.args.receiver c.hear.new.self c.hear.result f (rw c.terms-table.ensures at c.hear.ensures.fits);
       comes =
           heard_so c.args.input.limits text c.args.number m c.args.sender c.args.receiver (scope_of d)
