@@ -71,6 +71,7 @@ pub fn repeated<T: Clone + Drop>(heap: Global, item: T, count: usize) -> Result<
 pub fn with_room<T>(heap: Global, count: usize) -> Result<Vec<T>, NoMemory>
     ensures empty { IfOk result (λ v. v.items ≡ []) }
     ensures room { IfOk result (λ v. count ≤ vec_capacity v) }
+    ensures exact { IfOk result (λ v. vec_capacity v ≡ count) }
 {
     match Vec::with_capacity(heap, count) {
         Ok(list) => Ok(list),

@@ -8,6 +8,7 @@ ghost use Rattle.rows.specs.Chains.{Chained, Headed};
 
 use crate::entry::Entry;
 
+/// A store of at most 4,096 values, one row each: a value costs one, and the space is the rows left.
 #[derive(Drop)]
 pub struct Rows {
     pub(crate) entries: Vec<Entry>,

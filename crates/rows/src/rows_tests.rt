@@ -111,7 +111,7 @@ fn twin_chains_over_other_atoms(rt: HostRuntime) -> Result<(), Fail> {
     Ok(())
 }
 
-// As deep as calls nest: each row against the one before it.
+// The longest chain: its last row against the one before it.
 #[test]
 fn chain_against_itself(rt: HostRuntime) -> Result<(), Fail> {
     let mut rows = Rows::new(rt.alloc(), 4096)?;

@@ -2,6 +2,7 @@
 use crate::fault::StoreFault;
 use crate::shape::Shape;
 
+/// A call of a store.
 #[derive(Clone, Copy)]
 pub enum Call<'a> {
     MakeAtom(u32),
@@ -15,10 +16,15 @@ pub enum Call<'a> {
     AskSpace,
 }
 
+/// What a call of a store answers.
 #[derive(Clone, Copy)]
 pub enum Answer {
+    /// of a maker, and of a question for a part or a text
     Handle(Result<u32, StoreFault>),
+    /// of a question for a shape
     Shape(Result<Shape, StoreFault>),
+    /// of a question whether values are equal
     Equal(Result<bool, StoreFault>),
+    /// of a question for the space
     Space(usize),
 }

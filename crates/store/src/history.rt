@@ -5,7 +5,7 @@ ghost use Rattle.store.specs.History.{Answered, Performed, Lawful, made_at, made
 use crate::call::{Answer, Call};
 use crate::store::Store;
 
-// One call.
+/// Makes one call.
 pub fn answer<S: Store>(store: &mut S, call: &Call<'_>) -> Answer
     ensures { Answered S.semantics store.old store.new call.now result }
 {
@@ -22,7 +22,7 @@ pub fn answer<S: Store>(store: &mut S, call: &Call<'_>) -> Answer
     }
 }
 
-// Calls in order, as many as there is room for answers.
+/// Makes calls in order, as many as there is room for answers, and puts each answer in its place.
 pub fn perform<S: Store>(store: &mut S, calls: &[Call<'_>], answers: &mut [Answer])
     ensures performed { Performed S.semantics calls.now answers.new store.old (min (length calls.now) (length answers.old)) store.new }
     ensures lawful { Lawful S.semantics calls.now answers.new store.old (min (length calls.now) (length answers.old)) store.new }

@@ -1,17 +1,22 @@
-// What a value is, without its parts.
+// The shapes of values.
 ghost use Rattle.std.specs.Prelude.{◌≡◌};
 ghost use Rattle.store.specs.Numbers.{kind_number, head_number, part_count};
 
+/// What a value is, without its parts.
 #[derive(Clone, Copy, PartialEq, Eq, Debug)]
 pub enum Shape {
+    /// an atom, by its number
     Atom(u32),
+    /// a tuple of so many parts
     Tuple { parts: u8 },
+    /// a ciphertext
     Crypt,
+    /// an application of a function, by its number, to so many parts
     Apply { function: u8, parts: u8 },
 }
 
 impl Shape {
-    // The kind of value, as a number.
+    /// The kind of value: 1 an atom, 2 a tuple, 3 a ciphertext, 4 an application.
     pub fn kind(self) -> u8
         ensures { result ≡ kind_number self }
     {
@@ -23,7 +28,7 @@ impl Shape {
         }
     }
 
-    // The number of the atom, or of the function; else 0.
+    /// The number of the atom, or of the function; else 0.
     pub fn head(self) -> u32
         ensures { result ≡ head_number self }
     {
@@ -34,7 +39,7 @@ impl Shape {
         }
     }
 
-    // How many parts can be asked for.
+    /// How many parts can be asked for: none of an atom or a ciphertext.
     pub fn count(self) -> u8
         ensures { result ≡ part_count self }
     {

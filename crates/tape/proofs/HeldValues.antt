@@ -12,7 +12,7 @@ use Rattle.store.specs.declared.shape.Shape.{Shape as Form}
 use Rattle.store.specs.declared.shape.Shape.TheVariants.{Atom, Tuple, Crypt, Apply}
 use Rattle.store.specs.Makers.{gathered}
 use Rattle.tape.specs.Headers.{parts_after}
-use Rattle.tape.specs.Values.{starts, values, build, meaning, IsWhole, parts_of}
+use Rattle.tape.specs.Values.{starts, values, build, meaning, IsWhole, Stands, parts_of}
 use Rattle.tape.specs.Fitting.{means_starts}
 use Rattle.tape.specs.Held.{Held, IsNumbered}
 use Rattle.tape.specs.Making.{parts_on}
@@ -60,14 +60,22 @@ module _ (bs : List ℕ) (w : IsWhole bs) (held : Held bs) (v : Tree) (s : Stora
   one_value : (h : ℕ) (u x : Tree) → meaning (bs ++ encode v) h ≡ Some u → meaning (bs ++ encode v) h ≡ Some x → Storable x → Storable u
   one_value h u x e f p = let q : x ≡ u = (let z : ◌≡◌ {A = Option Tree} (Some x) (Some u) = sym f ∙ e in cc) in subst Storable q p
 
+  all : encode v ≡ flat_map encode (v ∷ [])
+  all = sym (append-nil (encode v))
+
+  -- what stands in that encoding stands behind the others too
+  stands_behind : (h : ℕ) (x : Tree) → length bs ≤ h → Stands (flat_map encode (v ∷ [])) (h - length bs) x → Stands (bs ++ encode v) h x
+  stands_behind h x l k = record {
+    rest = k.rest;
+    formed = k.formed;
+    spelled = drop_past bs (encode v) (length bs) h refl l ∙ (ap (drop (h - length bs)) all ∙ k.spelled);
+  }
+
   pub held_append : Held (bs ++ encode v)
   held_append h u e = go (cases_lt h (length bs))
     where
       there : starts 0 (bs ++ encode v) h ≡ true
       there = means_starts (bs ++ encode v) h u e
-
-      all : encode v ≡ flat_map encode (v ∷ [])
-      all = sym (append-nil (encode v))
 
       go : (h < length bs) ⊎ (length bs ≤ h) → Storable u
       go (inl l) =
@@ -79,9 +87,5 @@ module _ (bs : List ℕ) (w : IsWhole bs) (held : Held bs) (v : Tree) (s : Stora
           let begin : starts 0 (encode v) j ≡ true =
           sym (ap (λ cs. starts 0 (cs ++ encode v) h) (sym w) ∙ behind_each (values 0 bs) (encode v) h j (let q = ap length w in omega arith)) ∙ there in
           let r = reached Storable formed_held inside_held (j + 1) (v ∷ []) j (omega arith) (s, tt) (subst (λ cs. starts 0 cs j ≡ true) all begin) in
-          let k = r.stands in
-          let m = value_there (bs ++ encode v) h r.value (record {
-            starts = there;
-            stands = record { rest = k.rest; formed = k.formed; spelled = drop_past bs (encode v) (length bs) h refl l ∙ ap (drop j) all ∙ k.spelled };
-          }) in
+          let m = value_there (bs ++ encode v) h r.value (record { starts = there; stands = stands_behind h r.value l r.stands }) in
           one_value h u r.value e m r.holds

@@ -5,6 +5,7 @@ ghost use Rattle.store.specs.StorableFact.{storable_prop};
 ghost use Rattle.tape.specs.Values.{IsWhole};
 ghost use Rattle.tape.specs.Held.{Held};
 
+/// A store of at most 65,535 bytes: a value costs as many as its encoding has, and the space is the bytes left.
 #[derive(Drop)]
 pub struct Tape {
     pub(crate) bytes: Vec<u8>,

@@ -6,9 +6,9 @@ use Rattle.rows.proofs.rows.Rows.new.Goals as goal
 
 pub invariant_of-result : goal.invariant_of-result
 invariant_of-result c =
-    let h : vec_items c.in_ok-vec.field-0 ≡ replicate 4096 0 = search rules in
-    let s = sound_begins (vec_items c.in_ok-vec.field-0) (vec_items c.in_ok-with_capacity.field-0) h (search rules) in
+    let h : vec_items c.in_ok-repeated.field-0 ≡ replicate 4096 0 = search rules in
+    let s = sound_begins (vec_items c.in_ok-repeated.field-0) (vec_items c.in_ok-with_room.field-0) h (search rules) in
     record { few = search rules; all = s.all; held = s.held; classed = s.classed; earlier = s.earlier; first = s.first; chained = s.chained; headed = s.headed }
 
 pub returns-clause-empty : goal.returns-clause-empty
-returns-clause-empty c h = ap (λ es. meaning es h) c.in_ok-with_capacity.ensures.items ∙ none_there h
+returns-clause-empty c h = ap (λ es. meaning es h) c.in_ok-with_room.ensures.empty ∙ none_there h

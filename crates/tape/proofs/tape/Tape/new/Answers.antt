@@ -7,8 +7,8 @@ use Rattle.tape.proofs.Reaching.{nowhere}
 use Rattle.tape.proofs.Starting.{starts_nowhere}
 use Rattle.tape.proofs.tape.Tape.new.Goals as goal
 
-pub returns-in_err-vec-clause-law : goal.returns-in_err-vec-clause-law
-returns-in_err-vec-clause-law c = tape_law
+pub returns-in_err-repeated-clause-law : goal.returns-in_err-repeated-clause-law
+returns-in_err-repeated-clause-law c = tape_law
 
 pub invariant_of-result-clause-whole : goal.invariant_of-result-clause-whole
 unfolding values
