@@ -68,7 +68,7 @@ pub other_set : (cells : List ℕ) (t h q : ℕ) → has q (t ∷ []) ≡ false 
 other_set cells t h q e = get_or-set_other cells t q h vacant (λ p. both_ways (eqb q t) (or_parts (eqb q t) false e).0 (eq-eqb q t p))
 
 module _ (m : Meaning) where
-  room_after : (cells : List ℕ) (r h n : ℕ) → ((q : ℕ) → has q (from r (suc n)) ≡ true → q < length cells) → (q : ℕ) → has q (from (suc r) n) ≡ true → q < length (set cells r h)
+  pub room_after : (cells : List ℕ) (r h n : ℕ) → ((q : ℕ) → has q (from r (suc n)) ≡ true → q < length cells) → (q : ℕ) → has q (from (suc r) n) ≡ true → q < length (set cells r h)
   room_after cells r h n room q e = let l = room q (or_right (eqb q r) (has q (from (suc r) n)) e) in subst⁻¹ (λ n. q < n) (length-set cells r h) l
 
   pub filled_holds : (cells cells' : List ℕ) (memory : Memory) (r : ℕ) (vs : Trees) → ((q : ℕ) → has q (from r (count vs)) ≡ true → q < length cells) → Filled m cells r vs cells'

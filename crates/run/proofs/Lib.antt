@@ -1,4 +1,5 @@
 pub mod Actions
+pub mod CallLaw
 pub mod Counting
 pub mod Emptying
 pub mod Holding

@@ -47,7 +47,7 @@ none_or model.none f e p = cc
 none_or (model.some x) f e p = cc
 
 -- a fault of a line comes once something is tried
-abbrev Late : Result (Unit {0}) RunFault → Type 0
+abbrev pub Late : Result (Unit {0}) RunFault → Type 0
 Late (Ok u) = Unit {0}
 Late (Err f) = IsLate (model.some f)
 
@@ -55,7 +55,7 @@ is_late : (e : StepFault) (p : ℕ) → IsLate (model.some (fault_at e p))
 is_late steps.Differs p = tt
 is_late (steps.Store f) p = tt
 
-line_late : {S : Type 0} {M : Semantics S} {rows : List Row} {place : ℕ} {s t : S} {x y : State} {r : Result (Unit {0}) RunFault} → DoesLine M rows place s x t y r → Late r
+pub line_late : {S : Type 0} {M : Semantics S} {rows : List Row} {place : ℕ} {s t : S} {x y : State} {r : Result (Unit {0}) RunFault} → DoesLine M rows place s x t y r → Late r
 line_late all_done = tt
 line_late (one_done d l) = line_late l
 line_late (one_refused {place = place} f d) = is_late f place

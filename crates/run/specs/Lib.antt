@@ -8,5 +8,6 @@ pub mod Lines
 pub mod Turned
 pub mod Started
 pub mod Calls
+pub mod CallLaw
 pub mod Called
 pub mod Looked

@@ -3,6 +3,7 @@
 
 mod build;
 pub mod fault;
+mod laws;
 mod line;
 mod open;
 mod registers;
@@ -13,8 +14,7 @@ mod step;
 mod supply;
 mod turn;
 mod valid;
-mod values;
 
 pub use crate::fault::RunFault;
+pub use crate::laws::{calls_keep_runs, values_follow};
 pub use crate::run::Run;
-pub use crate::values::values_follow;

@@ -2,7 +2,7 @@
 use crate::programs::{run_of, sender, starter};
 use crate::refused::{BEYOND, GREATEST, empty, invalid, out_of_turn};
 use rows::rows::Rows;
-use run::fault::RunFault;
+use run::RunFault;
 use std::alloc::Global;
 use std::process::Abort;
 use std::test::Fail;

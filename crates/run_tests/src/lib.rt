@@ -5,6 +5,10 @@
 #[cfg(test)]
 mod begins;
 #[cfg(test)]
+mod elsewhere;
+#[cfg(test)]
+mod faults;
+#[cfg(test)]
 mod full;
 #[cfg(test)]
 mod honest;

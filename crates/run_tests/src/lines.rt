@@ -2,7 +2,7 @@
 use crate::programs::{answerer, hearer, run_of, sender};
 use crate::refused::{empty, locked};
 use rows::rows::Rows;
-use run::fault::RunFault;
+use run::RunFault;
 use std::alloc::Global;
 use std::process::Abort;
 use std::test::Fail;

@@ -2,7 +2,7 @@
 use program::action::{Action, Row};
 use program::held::Program;
 use program::parts::Parts;
-use run::run::Run;
+use run::Run;
 use std::alloc::Global;
 use std::test::Fail;
 

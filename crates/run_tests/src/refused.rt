@@ -1,6 +1,5 @@
 // What calls are refused with, and handles that are never valid.
-use run::fault::RunFault;
-use run::run::Run;
+use run::{Run, RunFault};
 use store::fault::StoreFault;
 
 // beyond the small stores of these tests
@@ -36,6 +35,18 @@ pub(crate) fn empty(run: &Run<'_>, numbers: &[u16]) -> bool {
         if run.register(*number).is_some() {
             return false;
         }
+    }
+    true
+}
+
+// Do the first registers hold just these?
+pub(crate) fn holds(run: &Run<'_>, handles: &[Option<u32>]) -> bool {
+    let mut number: u16 = 0;
+    for handle in handles {
+        if run.register(number) != *handle {
+            return false;
+        }
+        number = number.wrapping_add(1);
     }
     true
 }

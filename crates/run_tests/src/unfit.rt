@@ -2,7 +2,7 @@
 use crate::programs::{opener, run_of};
 use crate::refused::{BEYOND, empty, invalid};
 use rows::rows::Rows;
-use run::fault::RunFault;
+use run::RunFault;
 use std::alloc::Global;
 use std::process::Abort;
 use std::test::Fail;
