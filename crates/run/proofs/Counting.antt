@@ -33,9 +33,6 @@ news_first (unlock x r k) xs = omega arith
 abbrev pub Counted : (List Act → ℕ) → List Row → ℕ → ℕ → Type 0
 Counted counts rows i n = (n ≤ i) × (n + counts (map row_act (drop i rows)) ≡ counts (map row_act rows))
 
-pub none_counted : (counts : List Act → ℕ) (rows : List Row) → Counted counts rows 0 0
-none_counted counts rows = (omega arith, omega arith)
-
 pub all_counted : (counts : List Act → ℕ) → counts [] ≡ 0 → (rows : List Row) (i n : ℕ) → length rows ≤ i → Counted counts rows i n → n ≡ counts (map row_act rows)
 all_counted counts z rows i n l c = omega (arith, c.1, z, ap (λ (ys : List Row). counts (map row_act ys)) (drop_all i rows l))
 

@@ -10,9 +10,6 @@ use Rattle.run.specs.Shown.{vacant, register}
 use Rattle.run.specs.Filling.{filled_by}
 use Rattle.run.specs.Lines.{Empties}
 
-pub none_emptied : (cells : List ℕ) → Empties [] cells cells
-none_emptied cells = (refl, λ r. refl)
-
 pub emptied_then : (a b cells now cells' : List ℕ) → Empties a cells now → Empties b now cells' → Empties (a ++ b) cells cells'
 emptied_then a b cells now cells' e f = (f.0 ∙ e.0, λ r. f.1 r ∙ ap (λ x. if has r b then vacant else x) (e.1 r) ∙ both (has r a) (has r b) (register cells r) ∙ ap (λ x. if x then vacant else register cells r) (sym (has_append r a b)))
   where

@@ -1,5 +1,6 @@
 pub mod Actions
 pub mod CallLaw
+pub mod CallValues
 pub mod Counting
 pub mod Emptying
 pub mod Holding
@@ -11,4 +12,5 @@ pub mod Opening
 pub mod Outcomes
 pub mod Spanning
 pub mod Trials
+pub mod ValidHandles
 pub mod ValueLaw
