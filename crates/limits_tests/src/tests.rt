@@ -148,7 +148,7 @@ fn registers_and_actions(rt: HostRuntime) -> Result<(), Fail> {
     )
 }
 
-// The message is underivable, with the role by the number of its name, and the first failing term by its number.
+// The message is underivable for the first role that stands in a line, with the first failing term by its number.
 fn underivable(
     rt: &impl Abort,
     heap: Global,
@@ -163,7 +163,7 @@ fn underivable(
     match fault {
         TranslationFault::Lines(LineFault::Underivable { at, role, term }) => {
             assert_eq!(rt; at, place);
-            assert_eq!(rt; role, 1);
+            assert_eq!(rt; role, 0);
             assert_eq!(rt; term, failing);
             Ok(())
         }
@@ -171,7 +171,7 @@ fn underivable(
     }
 }
 
-// Terms by number: `a`, `b`, `k`, the ciphertext, `j`, the tuple. `h`, name 1, makes `a` and `b`, which takes two registers,
+// Terms by number: `a`, `b`, `k`, the ciphertext, `j`, the tuple. `h`, role 0 though name 1, makes `a` and `b`, which takes two registers,
 // and then lacks `k`, term 2 (but name 3), before it comes to `j`.
 const TWO_LACKING: &str = r#"(spec (declare (type "m" "principal") (type "h" "principal")
 (type-shared "j" "number") (type-shared "k" "number") (type "a" "number") (type "b" "number"))

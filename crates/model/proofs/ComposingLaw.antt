@@ -10,7 +10,7 @@ use Rattle.model.specs.Specifications.{Specification, message, makes, Duty, begi
 use Rattle.model.specs.Programs.{nobody_yet, Sayable}
 use Rattle.model.specs.ComposingLaw.{ComposingLaw, Derivable, SendingLaw}
 use Rattle.model.proofs.Lists.{every_right}
-use Rattle.model.proofs.Lives.{says_derivable, fails_underivable}
+use Rattle.model.proofs.Lives.{says_derivable, fails_underivable, fails_blamed}
 use Rattle.model.proofs.Duties.{IsLine, own_lines, disciplined_before, life_append}
 use Rattle.model.proofs.Names.{disciplined}
 
@@ -54,6 +54,7 @@ composing_law S r h done left k e s q =
     record {
       succeeds = says_derivable P l d.0 s q (makes S k) d.1 (message S k);
       fails = fails_underivable P l d.0 s q (makes S k) d.1 (message S k);
+      first = fails_blamed P l d.0 s q (makes S k) d.1 (message S k);
     }
   where
     P : Party

@@ -14,6 +14,7 @@ pub mod Resting
 -- lives: what a state has, and when a term can be said
 pub mod Lived
 pub mod Saying
+pub mod Blame
 pub mod Lives
 -- the machine; sheets, which tell the term that each register is for
 pub mod Machine

@@ -9,6 +9,8 @@ use Rattle.model.specs.Lives.{Life, starts, hears, says, Holdings, New, Discipli
 use Rattle.model.proofs.Deduction.{Composes, known, compose as built, complete}
 use Rattle.model.proofs.Composing.{can_composes, composes_can, Good}
 use Rattle.model.proofs.Lived.{Seen, Lived, lived_start, lived_hear}
+use Rattle.model.specs.Blame.{Blame}
+use Rattle.model.proofs.Blame.{said_blames}
 use Rattle.model.proofs.Saying.{fails_within, composed_good, lived_say, said_iff, said_fails}
 
 -- every life that keeps the discipline
@@ -59,3 +61,6 @@ module _ (P : Party) (l : Life) (disciplined : Disciplined l) (s : Role) (ran : 
 
     pub fails_underivable : (u : Tree) → said P makes t s ≡ failed u → (¬ Derives P (Holdings (says l makes t)) u) × Within u t
     fails_underivable u e = (said_fails P l s lived makes new t u e, fails_within P makes t s u e)
+
+    pub fails_blamed : (u : Tree) → said P makes t s ≡ failed u → Blame P (Holdings (says l makes t)) t u
+    fails_blamed u e = said_blames P l s lived makes new t u e

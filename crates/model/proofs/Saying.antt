@@ -16,11 +16,11 @@ use Rattle.model.proofs.Composing.{composes_bind, can_composes, composes_can, Ba
 use Rattle.model.proofs.Keeping.{inv_built}
 use Rattle.model.proofs.Lived.{Seen, seen_whole, kept_more, Lived}
 
-abbrev IsFailed : Said → Type 0
+abbrev pub IsFailed : Said → Type 0
 IsFailed (spoke s) = ⊥
 IsFailed (failed u) = Unit {0}
 
-abbrev failed_at : Said → Tree
+abbrev pub failed_at : Said → Tree
 failed_at (spoke s) = leaf 0
 failed_at (failed u) = u
 
@@ -34,11 +34,11 @@ fails_within P makes t s u = go (compose P makes t s) (good P makes (λ v. Withi
     go (lacks w) g e = subst (λ x. Within x t) (ap failed_at e) g.0
 
 -- what composing starts from in a say: the list, and the names made now
-abbrev Source : Life → (ℕ → Bool) → Tree → Role → Tree → Type 0
+abbrev pub Source : Life → (ℕ → Bool) → Tree → Role → Tree → Type 0
 Source l makes t s = Base makes (Seen (says l makes t)) s.known
 
 -- what the list becomes in composing
-abbrev Became : Party → Life → (ℕ → Bool) → Tree → Role → List Entry → ℕ → Type 0
+abbrev pub Became : Party → Life → (ℕ → Bool) → Tree → Role → List Entry → ℕ → Type 0
 Became P l makes t s fs m = Grows (Built P makes (Seen (says l makes t))) s.known s.next fs m
 
 -- saying, after a life
@@ -84,14 +84,14 @@ module _ (P : Party) (l : Life) (s : Role) (v : Lived P l s) (makes : ℕ → Bo
   source_all (node h ts) (inr m) = elim m [ ]
 
   -- what is derivable composes
-  derivable_composes : {u : Tree} → Derives P (Holdings (says l makes t)) u → Composes P (Source l makes t s) u
+  pub derivable_composes : {u : Tree} → Derives P (Holdings (says l makes t)) u → Composes P (Source l makes t s) u
   derivable_composes = complete P (Holdings (says l makes t)) (Source l makes t s) source_saturated source_all
 
   pub composed_good : Good P makes (Seen (says l makes t)) s t (compose P makes t s)
   composed_good = good P makes (Seen (says l makes t)) (seen_whole (says l makes t)) t s (t, inr refl, itself)
 
   -- what has joined is derivable
-  inv_after : {fs : List Entry} {m : ℕ} → Became P l makes t s fs m → Inv P (Holdings (says l makes t)) (Seen (says l makes t)) Nobody fs m
+  pub inv_after : {fs : List Entry} {m : ℕ} → Became P l makes t s fs m → Inv P (Holdings (says l makes t)) (Seen (says l makes t)) Nobody fs m
   inv_after g = inv_built P (Holdings (says l makes t)) (Seen (says l makes t)) makes (λ n m k. held (inr (m, seen_here n m k))) Nobody g before
     where
       before : Kept P (Holdings (says l makes t)) (Seen (says l makes t)) s

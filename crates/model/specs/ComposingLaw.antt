@@ -2,6 +2,7 @@
 use Rattle.std.specs.Prelude.{◌≡◌, ℕ, ◌<◌, Bool, ◌↔◌, List, [], ◌∷◌, ◌++◌}
 use Rattle.std.proofs.Math.Option.{some}
 use Rattle.model.specs.Trees.{Tree, Within}
+use Rattle.model.specs.Blame.{Blame}
 use Rattle.model.specs.Deduction.{Party, Derives}
 use Rattle.model.specs.Roles.{Role, spoke, failed, said}
 use Rattle.model.specs.Lives.{Life, starts, hears, says, Holdings, run}
@@ -9,10 +10,11 @@ use Rattle.model.specs.Specifications.{Specification, message, makes, Duty, begi
 use Rattle.model.specs.Programs.{nobody_yet, Sayable}
 
 -- to say a message after a life: it succeeds exactly if the message derives from the holdings, the names made now among them;
--- the term that a failure names does not derive from them, and is the message or within it
+-- the term that a failure names does not derive from them, is the message or within it, and is to blame
 pub record Decides (P : Party) (l : Life) (s : Role) (makes : ℕ → Bool) (t : Tree) : Type 0 where
   pub succeeds : ((s' : Role) × (said P makes t s ≡ spoke s')) ↔ Derives P (Holdings (says l makes t)) t
   pub fails : (u : Tree) → said P makes t s ≡ failed u → (¬ Derives P (Holdings (says l makes t)) u) × Within u t
+  pub first : (u : Tree) → said P makes t s ≡ failed u → Blame P (Holdings (says l makes t)) t u
 
 -- so it is for every role of a specification, at every line that it sends, if it came there
 abbrev pub ComposingLaw : Type 0

@@ -42,7 +42,7 @@ module _ (t : TermTable) (limits : Limits) (S : Scope) (n : ℕ) (name : Name) w
     begun s y c r' x k d =
         as_started r' x
         (subst (λ o. Plays t o r' x) same
-        (line_ended t (record { line = 0; at = name.at; limits = limits }) r s _ c.0 (record { knows = c.1; orderly = c.2 }) r' x k d).1)
+        (line_ended t (record { line = 0; at = name.at; role = 0; limits = limits }) r s _ c.0 (record { knows = c.1; orderly = c.2 }) r' x k d).1)
       where
         same : ended limits 0 name.at (player_of t r) (start (party_of (vec_items r.party.functions)) (map (tree_in t) ks)) ≡ started limits S n name
         same = rw (rn, rp, rr, rf, g)

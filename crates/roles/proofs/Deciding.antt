@@ -5,6 +5,7 @@ use Rattle.std.proofs.lemmas.Bool.{eq-eqb, cond-true}
 use Rattle.std.proofs.lemmas.List.{length-map, map-append, get_or-map}
 use Rattle.model.specs.Lists.{Every}
 use Rattle.model.specs.Trees.{Tree, Formed, Within, eq_tree}
+use Rattle.model.specs.Blame.{Blame}
 use Rattle.model.specs.Deduction.{Party, Derives}
 use Rattle.model.specs.Roles.{Role, Said, spoke, failed, said}
 use Rattle.model.specs.Lives.{Life, starts, says, Holdings, run}
@@ -120,11 +121,6 @@ module _ (limits : Limits) (text : List ℕ) (U : Scope) (before : List Lined) (
       ((placed text U ls before both m.met two.so_far m.sender ∙ ap (λ c. place_in c both) (sym two.sends)) i)
       ((placed text U ls before both m.met two.so_far m.receiver ∙ ap (λ c. place_in c both) (sym two.receives)) i) m.met)
 
-  name_is : p.name ≡ m.sender
-  name_is =
-      sym (get_or-map (λ (z : Player). z.name) m.met.players from nobody 0 from_in) ∙ ap (λ ns. get_or ns from 0) (two.so_far).numbers
-      ∙ at_place (numbered text U l.sender) both 0 two.sender_placed ∙ two.sends
-
   did : Did S from (doings text U ls from before) p
   did = (two.so_far).did from nobody two.sender_placed
 
@@ -157,9 +153,9 @@ module _ (limits : Limits) (text : List ℕ) (U : Scope) (before : List Lined) (
   refused : (u : Tree) → said (S.party from) (makes S k) (message S k) p.role ≡ failed u → Refused
   refused u e = (_, _, _, outcome ∙ not_said limits text k from to l.message m.met m.listed m.lists nobody u from_in (said_same ∙ e))
 
-  because : (at name term : ℕ) → line limits text k l G ≡ Err (Underivable at name term) → Unsaid limits k (term_place l.message) m.listed.terms p (said (S.party from) (makes S k) (message S k) p.role) at name term
+  because : (at name term : ℕ) → line limits text k l G ≡ Err (Underivable at name term) → Unsaid limits k (term_place l.message) from m.listed.terms (said (S.party from) (makes S k) (message S k) p.role) at name term
   because at name term e =
-      subst (λ o. Unsaid limits k (term_place l.message) m.listed.terms p o at name term) said_same
+      subst (λ o. Unsaid limits k (term_place l.message) from m.listed.terms o at name term) said_same
       (was_not_said limits text k from to l.message m.met m.listed m.lists nobody at name term (sym outcome ∙ e))
 
   abbrev DerivesAt : ℕ → Tree → Type 0
@@ -174,13 +170,25 @@ module _ (limits : Limits) (text : List ℕ) (U : Scope) (before : List Lined) (
       let i = within_listed text m.met.scope.names (min limits.terms 512) b.lacked l.message m.met.scope.terms m.listed.terms w.read_well (subst⁻¹ (λ t. Within b.lacked t) sent_is f.1) in
       subst⁻¹ (λ u. (¬ DerivesAt from u) × Within u (message S k)) (ap (λ n. get_or m.listed.terms n none) b.term ∙ at_number b.lacked m.listed.terms none i) f
 
+  abbrev BlamedAt : ℕ → Tree → Type 0
+  BlamedAt r u = Blame (S.party r) (holds_at S r (length before)) (message S k) u
+
+  first : (at name term : ℕ) (none : Tree) → line limits text k l G ≡ Err (Underivable at name term) → BlamedAt from (get_or m.listed.terms term none)
+  first at name term none e =
+      let b = because at name term e in
+      let f = decides.fails b.lacked b.is in
+      let w = taken text (min limits.terms 512) l.message m.met.scope m.listed m.lists in
+      let i = within_listed text m.met.scope.names (min limits.terms 512) b.lacked l.message m.met.scope.terms m.listed.terms w.read_well (subst⁻¹ (λ t. Within b.lacked t) sent_is f.1) in
+      subst⁻¹ (BlamedAt from) (ap (λ n. get_or m.listed.terms n none) b.term ∙ at_number b.lacked m.listed.terms none i) (decides.first b.lacked b.is)
+
   pub decided : Decided limits text U before l G m
   decided = record {
     exactly = subst (λ r. Refused ↔ (¬ DerivesAt r (message S k))) place_same (refused_exactly _ _ _ _ _ decides Refused refused why);
     derives = λ n. subst (λ r. DerivesAt r (message S k)) place_same (elim (refused_or_derives _ _ _ _ _ decides Refused refused why) [ inl z ↦ absurd (n z) | inr d ↦ d ]);
-    places = λ at name term e. let b = because at name term e in (b.place, b.name ∙ name_is);
+    places = λ at name term e. let b = because at name term e in (b.place, b.role ∙ place_same);
     fails = λ at name term none e.
         subst (λ r. (¬ DerivesAt r (get_or m.listed.terms term none)) × Within (get_or m.listed.terms term none) (message S k)) place_same (fails at name term none e);
+    first = λ at name term none e. subst (λ r. BlamedAt r (get_or m.listed.terms term none)) place_same (first at name term none e);
   }
     where
       why : Refused → (u : Tree) × (said (S.party from) (makes S k) (message S k) p.role ≡ failed u)

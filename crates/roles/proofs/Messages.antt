@@ -34,7 +34,7 @@ module _ (limits : Limits) (text : List ℕ) (number : ℕ) (t : Term) (i j : �
   module _ (fits : AllFit before rs) (after : TermTable) (grows : Grows before after) (V : Scope) (w : with_term text (min limits.terms 512) t U ≡ Ok V)
       (at : ℕ) (here : at ≡ term_place t) (made : List ℕ) (those : made ≡ made_among V.names (drop (length U.terms) V.terms)) (k : ℕ) (that : tree_in after k ≡ tree text U.names t) where
     abbrev sending : Player → Result Player LineFault
-    sending = says limits number at V.terms (makes_of made) (tree_in after k)
+    sending = says limits number at i V.terms (makes_of made) (tree_in after k)
 
     abbrev receiving : Player → Result Player LineFault
     receiving = hears limits number at (tree_in after k)
@@ -50,7 +50,7 @@ module _ (limits : Limits) (text : List ℕ) (number : ℕ) (t : Term) (i j : �
       where
         both : ℕ → List ℕ → Tree → List Player → Result Stage LineFault
         both a m x ps =
-            bind (change i (says limits number a V.terms (makes_of m) x) ps) (λ qs. bind (change j (hears limits number a x) qs) (λ us. Ok (record { scope = V; players = us })))
+            bind (change i (says limits number a i V.terms (makes_of m) x) ps) (λ qs. bind (change j (hears limits number a x) qs) (λ us. Ok (record { scope = V; players = us })))
 
     module _ (si : i < length rs) (r r' : Role) (ri : r ≡ get_or rs i r) where
       pub say_refused : (e : LineFault) → Plays after (sending (player_of after r)) r' (Err e) → Refused (message limits text number t i j stage) e

@@ -27,16 +27,16 @@ module _ (limits : Limits) (k at : ℕ) where
       go false e = absurd (cc)
 
   -- what a role cannot say
-  pub record Unsaid (terms : List Tree) (p : Player) (o : Said) (a n t : ℕ) : Type 0 where
+  pub record Unsaid (sender : ℕ) (terms : List Tree) (o : Said) (a n t : ℕ) : Type 0 where
     pub lacked : Tree
     pub is : o ≡ failed lacked
     pub place : a ≡ at
-    pub name : n ≡ p.name
+    pub role : n ≡ sender
     pub term : t ≡ term_number lacked terms
 
-  unsaid : (terms : List Tree) (p : Player) (o : Said) (a n t : ℕ) → said_so limits k at terms p o ≡ Err (Underivable a n t) → Unsaid terms p o a n t
-  unsaid terms p (spoke s) a n t e = absurd (ended_never p s a n t e)
-  unsaid terms p (failed u) a n t e = record { lacked = u; is = refl; place = cc; name = cc; term = cc }
+  unsaid : (role : ℕ) (terms : List Tree) (p : Player) (o : Said) (a n t : ℕ) → said_so limits k at role terms p o ≡ Err (Underivable a n t) → Unsaid role terms o a n t
+  unsaid role terms p (spoke s) a n t e = absurd (ended_never p s a n t e)
+  unsaid role terms p (failed u) a n t e = record { lacked = u; is = refl; place = cc; role = cc; term = cc }
 
 module _ (limits : Limits) (text : List ℕ) (k from to : ℕ) (t : Term) (G : Stage) (V : Scope) (v : with_term text (min limits.terms 512) t G.scope ≡ Ok V) (none : Player) where
   abbrev mk : ℕ → Bool
@@ -49,7 +49,7 @@ module _ (limits : Limits) (text : List ℕ) (k from to : ℕ) (t : Term) (G : S
   p = get_or G.players from none
 
   abbrev saying : Player → Result Player LineFault
-  saying = says limits k (term_place t) V.terms mk u
+  saying = says limits k (term_place t) from V.terms mk u
 
   abbrev hearing : Player → Result Player LineFault
   hearing = hears limits k (term_place t) u
@@ -60,15 +60,15 @@ module _ (limits : Limits) (text : List ℕ) (k from to : ℕ) (t : Term) (G : S
   opened : message limits text k t from to G ≡ bind (change from saying G.players) heard_then
   opened =
       ap (λ o. bind (refused_by to_line o) (λ (S : Scope).
-      bind (change from (says limits k (term_place t) S.terms (makes_of (made_among S.names (drop (length G.scope.terms) S.terms))) u) G.players) (λ ps.
+      bind (change from (says limits k (term_place t) from S.terms (makes_of (made_among S.names (drop (length G.scope.terms) S.terms))) u) G.players) (λ ps.
       bind (change to hearing ps) (λ qs. Ok (record { scope = S; players = qs }))))) v
 
-  pub not_said : (w : Tree) → from < length G.players → said p.party mk u p.role ≡ failed w → message limits text k t from to G ≡ Err (Underivable (term_place t) p.name (term_number w V.terms))
+  pub not_said : (w : Tree) → from < length G.players → said p.party mk u p.role ≡ failed w → message limits text k t from to G ≡ Err (Underivable (term_place t) from (term_number w V.terms))
   not_said w h e =
       opened ∙ ap (λ o. bind o heard_then)
-      (fault_through saying from G.players (Underivable (term_place t) p.name (term_number w V.terms)) none h (ap (said_so limits k (term_place t) V.terms p) e))
+      (fault_through saying from G.players (Underivable (term_place t) from (term_number w V.terms)) none h (ap (said_so limits k (term_place t) from V.terms p) e))
 
-  pub was_not_said : (a n m : ℕ) → message limits text k t from to G ≡ Err (Underivable a n m) → Unsaid limits k (term_place t) V.terms p (said p.party mk u p.role) a n m
+  pub was_not_said : (a n m : ℕ) → message limits text k t from to G ≡ Err (Underivable a n m) → Unsaid limits k (term_place t) from V.terms (said p.party mk u p.role) a n m
   was_not_said a n m e = go (change from saying G.players) refl (sym opened ∙ e)
     where
       later : (ps : List Player) (o : Result (List Player) LineFault) → change to hearing ps ≡ o → bind {B = Stage} o (λ qs. Ok (record { scope = V; players = qs })) ≡ Err (Underivable a n m) → ⊥
@@ -77,8 +77,8 @@ module _ (limits : Limits) (text : List ℕ) (k from to : ℕ) (t : Term) (G : S
           let y : x ≡ Underivable a n m = cc in
           ended_never limits k (term_place t) (get_or ps to none) (heard (get_or ps to none).party u (get_or ps to none).role) a n m (fault_at hearing to ps x q none ∙ ap Err y)
 
-      go : (o : Result (List Player) LineFault) → change from saying G.players ≡ o → bind o heard_then ≡ Err (Underivable a n m) → Unsaid limits k (term_place t) V.terms p (said p.party mk u p.role) a n m
+      go : (o : Result (List Player) LineFault) → change from saying G.players ≡ o → bind o heard_then ≡ Err (Underivable a n m) → Unsaid limits k (term_place t) from V.terms (said p.party mk u p.role) a n m
       go (Ok ps) q f = absurd (later ps (change to hearing ps) refl f)
       go (Err x) q f =
           let y : x ≡ Underivable a n m = cc in
-          unsaid limits k (term_place t) V.terms p (said p.party mk u p.role) a n m (fault_at saying from G.players x q none ∙ ap Err y)
+          unsaid limits k (term_place t) from V.terms p (said p.party mk u p.role) a n m (fault_at saying from G.players x q none ∙ ap Err y)

@@ -105,13 +105,13 @@ numbered t us l u h =
 module _ (t : TermTable) (turn : Turn) (r : Role) (term : ℕ) where
   -- what cannot be said
   pub not_said : (made : List ℕ) (us : List Tree) → Lists t us → (s : RoleState) (f : Fault) → Says t r.party made term r.state s (Err f)
-      → (x : LineFault) → x ≡ refused_as r.name turn.at f → (r' : Role) → Plays t (says turn.limits turn.line turn.at us (makes_of made) (tree_in t term) (player_of t r)) r' (Err x)
+      → (x : LineFault) → x ≡ refused_as turn.role turn.at f → (r' : Role) → Plays t (says turn.limits turn.line turn.at turn.role us (makes_of made) (tree_in t term) (player_of t r)) r' (Err x)
   not_said made us l s (lacking.Lacks u) d x e r' =
-      rw e (ap (said_so turn.limits turn.line turn.at us (player_of t r)) d.0 ∙ ap (λ k. Err (Underivable turn.at r.name k)) (numbered t us l u d.1))
+      rw e (ap (said_so turn.limits turn.line turn.at turn.role us (player_of t r)) d.0 ∙ ap (λ k. Err (Underivable turn.at turn.role k)) (numbered t us l u d.1))
   not_said made us l s lacking.NoMemory d x e r' = rw e tt
 
   pub said_well : (made : List ℕ) (us : List Tree) (s : RoleState)
       → said (party_of (vec_items r.party.functions)) (makes_of made) (tree_in t term) (role_of (tree_in t) r.state) ≡ spoke (role_of (tree_in t) s)
       → (r' : Role) (x : Result (Unit {0}) LineFault) → Plays t (ended turn.limits turn.line turn.at (player_of t r) (role_of (tree_in t) s)) r' x
-      → Plays t (says turn.limits turn.line turn.at us (makes_of made) (tree_in t term) (player_of t r)) r' x
-  said_well made us s q r' x p = subst⁻¹ (λ o. Plays t (said_so turn.limits turn.line turn.at us (player_of t r) o) r' x) q p
+      → Plays t (says turn.limits turn.line turn.at turn.role us (makes_of made) (tree_in t term) (player_of t r)) r' x
+  said_well made us s q r' x p = subst⁻¹ (λ o. Plays t (said_so turn.limits turn.line turn.at turn.role us (player_of t r) o) r' x) q p

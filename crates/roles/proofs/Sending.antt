@@ -40,10 +40,10 @@ as_good f (Err y) x e = absurd (cc)
 
 -- one role
 module _ (limits : Limits) (k at : ℕ) where
-  says_name : (terms : List Tree) (mk : ℕ → Bool) (t : Tree) (p q : Player) → says limits k at terms mk t p ≡ Ok q → q.name ≡ p.name
-  says_name terms mk t p q = go (said p.party mk t p.role)
+  says_name : (role : ℕ) (terms : List Tree) (mk : ℕ → Bool) (t : Tree) (p q : Player) → says limits k at role terms mk t p ≡ Ok q → q.name ≡ p.name
+  says_name role terms mk t p q = go (said p.party mk t p.role)
     where
-      go : (x : Said) → said_so limits k at terms p x ≡ Ok q → q.name ≡ p.name
+      go : (x : Said) → said_so limits k at role terms p x ≡ Ok q → q.name ≡ p.name
       go (spoke s) e = ap (λ (z : Player). z.name) (sym (ended_after limits k at p s q e))
       go (failed u) e = absurd (cc)
 
@@ -51,13 +51,13 @@ module _ (limits : Limits) (k at : ℕ) where
   hears_name t p q e = ap (λ (z : Player). z.name) (sym (ended_after limits k at p (heard p.party t p.role) q e))
 
   module _ (S : Specification) (r : ℕ) (ds : List Duty) (p q : Player) (h : Did S r ds p) (f : Formed (message_of S k)) (t : Tree) (m : t ≡ message_of S k) where
-    did_say : (terms : List Tree) (mk : ℕ → Bool) → mk ≡ makes S k → says limits k at terms mk t p ≡ Ok q → Did S r (ds ++ (speak k (makes S k) ∷ [])) q
-    did_say terms mk n = go (said p.party mk t p.role) refl
+    did_say : (role : ℕ) (terms : List Tree) (mk : ℕ → Bool) → mk ≡ makes S k → says limits k at role terms mk t p ≡ Ok q → Did S r (ds ++ (speak k (makes S k) ∷ [])) q
+    did_say role terms mk n = go (said p.party mk t p.role) refl
       where
         same : said (S.party r) (makes S k) (message_of S k) p.role ≡ said p.party mk t p.role
         same = λ i. said (sym h.party i) (sym n i) (sym m i) p.role
 
-        go : (x : Said) → said p.party mk t p.role ≡ x → said_so limits k at terms p x ≡ Ok q → Did S r (ds ++ (speak k (makes S k) ∷ [])) q
+        go : (x : Said) → said p.party mk t p.role ≡ x → said_so limits k at role terms p x ≡ Ok q → Did S r (ds ++ (speak k (makes S k) ∷ [])) q
         go (spoke s) e g = did_line S r ds (speak k (makes S k)) p s h f (ap spoken (same ∙ e)) limits at q g
         go (failed u) e g = absurd (cc)
 
@@ -131,7 +131,7 @@ module _ (text : List ℕ) (U : Scope) (ls before after : List Lined) (l : Lined
 
     module _ (limits : Limits) (V : Scope) (v : with_term text (min limits.terms 512) l.message G.scope ≡ Ok V) where
       abbrev saying : Player → Result Player LineFault
-      saying = says limits k (term_place l.message) V.terms (makes_of (made_among V.names (drop (length G.scope.terms) V.terms))) (tree text G.scope.names l.message)
+      saying = says limits k (term_place l.message) from V.terms (makes_of (made_among V.names (drop (length G.scope.terms) V.terms))) (tree text G.scope.names l.message)
 
       abbrev hearing : Player → Result Player LineFault
       hearing = hears limits k (term_place l.message) (tree text G.scope.names l.message)
@@ -145,7 +145,7 @@ module _ (text : List ℕ) (U : Scope) (ls before after : List Lined) (l : Lined
       -- whoever has a name keeps it
       same_names : (ps qs : List Player) → change from saying G.players ≡ Ok ps → change to hearing ps ≡ Ok qs → names qs ≡ names G.players
       same_names ps qs a b =
-          let said_still : names ps ≡ names G.players = names_same saying (says_name limits k (term_place l.message) V.terms _ (tree text G.scope.names l.message)) from G.players ps a in
+          let said_still : names ps ≡ names G.players = names_same saying (says_name limits k (term_place l.message) from V.terms _ (tree text G.scope.names l.message)) from G.players ps a in
           names_same hearing (hears_name limits k (term_place l.message) (tree text G.scope.names l.message)) to ps qs b ∙ said_still
 
       module _ (ps qs : List Player) (c : Changed saying from G.players ps) (c' : Changed hearing to ps qs) where
@@ -164,7 +164,7 @@ module _ (text : List ℕ) (U : Scope) (ls before after : List Lined) (l : Lined
                 let y : from ≡ r = sym (f.0 tt ∙ sender_is) in
                 let z = c.itself p (let m = n in omega arith) in
                 subst⁻¹ (Did S r (doings text U ls r before ++ (speak k (makes S k) ∷ []))) (c'.others r p (λ q. d (y ∙ q)))
-                (did_say limits k (term_place l.message) S r (doings text U ls r before) (get_or G.players r p) (get_or ps r p) old formed _ sent V.terms _ made
+                (did_say limits k (term_place l.message) S r (doings text U ls r before) (get_or G.players r p) (get_or ps r p) old formed _ sent from V.terms _ made
                 (subst (λ z. saying (get_or G.players z p) ≡ Ok (get_or ps z p)) y z))
             go false true f g =
                 let y : to ≡ r = sym (g.0 tt ∙ receiver_is) in

@@ -36,10 +36,10 @@ module _ (limits : Limits) where
   abbrev pub hears : ℕ → ℕ → Tree → Player → Result Player LineFault
   hears line at t p = ended line at p (heard p.party t p.role)
 
-  -- what cannot be derived is refused as such, also where a limit would be passed
-  abbrev pub said_so : ℕ → ℕ → List Tree → Player → Said → Result Player LineFault
-  said_so line at terms p (spoke s) = ended line at p s
-  said_so line at terms p (failed u) = Err (Underivable at p.name (term_number u terms))
+  -- what cannot be derived is refused as such, also where a limit would be passed, with the role's number in the order of roles
+  abbrev pub said_so : ℕ → ℕ → ℕ → List Tree → Player → Said → Result Player LineFault
+  said_so line at role terms p (spoke s) = ended line at p s
+  said_so line at role terms p (failed u) = Err (Underivable at role (term_number u terms))
 
-  abbrev pub says : ℕ → ℕ → List Tree → (ℕ → Bool) → Tree → Player → Result Player LineFault
-  says line at terms makes t p = said_so line at terms p (said p.party makes t p.role)
+  abbrev pub says : ℕ → ℕ → ℕ → List Tree → (ℕ → Bool) → Tree → Player → Result Player LineFault
+  says line at role terms makes t p = said_so line at role terms p (said p.party makes t p.role)

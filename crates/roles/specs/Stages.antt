@@ -50,7 +50,7 @@ module _ (limits : Limits) (text : List ℕ) where
   abbrev pub message : ℕ → Term → ℕ → ℕ → Stage → Result Stage LineFault
   message number t from to G =
       bind (refused_by to_line (with_term text (min limits.terms 512) t G.scope)) (λ S.
-      bind (change from (says limits number (term_place t) S.terms (makes_of (made_among S.names (drop (length G.scope.terms) S.terms))) (tree text G.scope.names t)) G.players) (λ ps.
+      bind (change from (says limits number (term_place t) from S.terms (makes_of (made_among S.names (drop (length G.scope.terms) S.terms))) (tree text G.scope.names t)) G.players) (λ ps.
       bind (change to (hears limits number (term_place t) (tree text G.scope.names t)) ps) (λ qs.
       Ok (record { scope = S; players = qs }))))
 

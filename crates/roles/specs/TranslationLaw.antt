@@ -3,6 +3,7 @@ use Rattle.std.specs.Prelude.{◌≡◌, ℕ, suc, ◌<◌, ◌↔◌, min, fals
 use Rattle.model.specs.Trees as model
 use Rattle.model.specs.Trees.{Within}
 use Rattle.model.specs.Deduction.{Derives}
+use Rattle.model.specs.Blame.{Blame}
 use Rattle.model.specs.Lives.{Life, says, Holdings}
 use Rattle.model.specs.Specifications.{Specification, message, makes, own_from, life_to}
 use Rattle.model.specs.Programs.{Accepted, program}
@@ -80,21 +81,29 @@ module _ (text : List ℕ) (U : Scope) (before : List Lined) (l : Lined) where
       let r = place_in sender (role_names text U (before ++ (l ∷ []))) in
       Derives (to_here.party r) (holds_at to_here r (length before)) t
 
--- a line behind others is refused as underivable: with a place, the name of a role, and the number of a term
-abbrev pub Refuses : Limits → List ℕ → List Lined → Lined → Stage → ℕ → ℕ → ℕ → Type 0
-Refuses limits text before l G at name term = line limits text (suc (length before)) l G ≡ Err (Underivable at name term)
+  -- a term is to blame that this party cannot derive the message
+  abbrev pub BlamedFor : ℕ → model.Tree → Type 0
+  BlamedFor sender u =
+      let r = place_in sender (role_names text U (before ++ (l ∷ []))) in
+      Blame (to_here.party r) (holds_at to_here r (length before)) sent_message u
 
--- so it is exactly if the message does not derive for its sender; the fault has the message's place and the sender's name, and the term of its number does not derive either
+-- a line behind others is refused as underivable: with a place, the number of a role, and the number of a term
+abbrev pub Refuses : Limits → List ℕ → List Lined → Lined → Stage → ℕ → ℕ → ℕ → Type 0
+Refuses limits text before l G at role term = line limits text (suc (length before)) l G ≡ Err (Underivable at role term)
+
+-- so it is exactly if the message does not derive for its sender; the fault has the message's place, the sender's number in the order of roles, and the number of the
+-- term that is to blame, which stands within the message and does not derive either
 pub record Decided (limits : Limits) (text : List ℕ) (U : Scope) (before : List Lined) (l : Lined) (G : Stage) (m : Ready limits text l G) : Type 0 where
-  pub exactly : ((at name term : ℕ) × Refuses limits text before l G at name term) ↔ (¬ DerivesFor text U before l m.sender (sent_message text U before l))
-  pub derives : (¬ ((at name term : ℕ) × Refuses limits text before l G at name term)) → DerivesFor text U before l m.sender (sent_message text U before l)
-  pub places : (at name term : ℕ) → Refuses limits text before l G at name term → (at ≡ term_place l.message) × (name ≡ m.sender)
+  pub exactly : ((at role term : ℕ) × Refuses limits text before l G at role term) ↔ (¬ DerivesFor text U before l m.sender (sent_message text U before l))
+  pub derives : (¬ ((at role term : ℕ) × Refuses limits text before l G at role term)) → DerivesFor text U before l m.sender (sent_message text U before l)
+  pub places : (at role term : ℕ) → Refuses limits text before l G at role term → (at ≡ term_place l.message) × (role ≡ place_in m.sender (role_names text U (before ++ (l ∷ []))))
   pub fails :
-      (at name term : ℕ) (none : model.Tree) → Refuses limits text before l G at name term
+      (at role term : ℕ) (none : model.Tree) → Refuses limits text before l G at role term
       → (¬ DerivesFor text U before l m.sender (slice_index_or m.listed.terms term none)) × Within (slice_index_or m.listed.terms term none) (sent_message text U before l)
+  pub first : (at role term : ℕ) (none : model.Tree) → Refuses limits text before l G at role term → BlamedFor text U before l m.sender (slice_index_or m.listed.terms term none)
 
 -- the line for which lines are refused as underivable: those before it are accepted, and it is ready
-pub record Stopped (limits : Limits) (text : List ℕ) (U : Scope) (ls : List Lined) (at name term : ℕ) : Type 0 where
+pub record Stopped (limits : Limits) (text : List ℕ) (U : Scope) (ls : List Lined) (at role term : ℕ) : Type 0 where
   pub before : List Lined
   pub here : Lined
   pub after : List Lined
@@ -102,7 +111,7 @@ pub record Stopped (limits : Limits) (text : List ℕ) (U : Scope) (ls : List Li
   pub stage : Stage
   pub accepted : lines limits text [] before (no_roles U) ≡ Ok stage
   pub ready : Ready limits text here stage
-  pub refused : Refuses limits text before here stage at name term
+  pub refused : Refuses limits text before here stage at role term
 
 -- so it is for every text
 pub record TranslationLaw (limits : Limits) (text : List ℕ) : Type 0 where
@@ -112,5 +121,5 @@ pub record TranslationLaw (limits : Limits) (text : List ℕ) : Type 0 where
       (X : syntax.Specification) (U : Scope) → Declares limits text X U → (before after : List Lined) (l : Lined) → X.lines ≡ before ++ (l ∷ after)
       → (G : Stage) → lines limits text [] before (no_roles U) ≡ Ok G → (m : Ready limits text l G) → Decided limits text U before l G m
   pub stops :
-      (X : syntax.Specification) (U : Scope) → Declares limits text X U → (at name term : ℕ) → lines limits text [] X.lines (no_roles U) ≡ Err (Underivable at name term)
-      → Stopped limits text U X.lines at name term
+      (X : syntax.Specification) (U : Scope) → Declares limits text X U → (at role term : ℕ) → lines limits text [] X.lines (no_roles U) ≡ Err (Underivable at role term)
+      → Stopped limits text U X.lines at role term

@@ -97,7 +97,7 @@ abbrev pub closed_under : ℕ → ℕ → Specification
 closed_under n k = two_roles (λ x. x == k) (there (crypt (leaf n) (leaf k)) ∷ [])
 
 -- The answers to the texts, and what holds of all terms and names. A refusal has its number, its layer and its place, the message's first byte; and the fault
--- behind it has the role's name and the failing term by their numbers: a is name 0 and b name 1; terms are numbered as they are read, n and k before the ciphertext.
+-- behind it has the role and the failing term by their numbers: a is role 0 and b role 1; terms are numbered as they are read, n and k before the ciphertext.
 pub record WorkedExamples : Type 0 where
   -- a ciphertext without its key gives neither text nor key, unless that derives from nothing
   pub without_key : (answered says_text ≡ codes "refused 10 4 168\n") × (answered says_key ≡ codes "refused 10 4 168\n")

@@ -17,8 +17,8 @@ pub enum LineFault {
     WrongType { at: usize },
     // the label was used before, or the receiver is the sender
     Repeated { at: usize },
-    // the sender cannot derive the message; its name by number, and the first term that fails
-    Underivable { at: usize, role: u8, term: u16 },
+    /// the sender cannot derive the message: its number in the order of first standing in a line, and the number of the first term that fails, by first reading
+    Underivable { at: usize, role: usize, term: u16 },
     NoMemory,
 }
 

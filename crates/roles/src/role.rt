@@ -22,11 +22,12 @@ use terms::limits::Limits;
 use terms::table::TermTable;
 use text::part::Part;
 
-// The line that a role is at, with the place of a fault in it and the limits.
+// The line that a role is at, with the place of a fault in it, the number of its sender in the order of roles, and the limits.
 #[derive(Clone, Copy)]
 pub(crate) struct Turn {
     pub(crate) line: usize,
     pub(crate) at: usize,
+    pub(crate) role: usize,
     pub(crate) limits: Limits,
 }
 
@@ -72,6 +73,7 @@ impl Role {
         let turn = Turn {
             line: 0,
             at: name.at,
+            role: 0,
             limits,
         };
         match role.state.start(view, terms.as_slice()) {
@@ -79,7 +81,7 @@ impl Role {
                 role.end_line(turn)?;
                 Ok(role)
             }
-            Err(fault) => Err(fault.of_role(number, name.at)),
+            Err(fault) => Err(fault.of_role(turn.role, name.at)),
         }
     }
 
@@ -95,7 +97,7 @@ impl Role {
         requires within { term < size table.now }
         requires fits { Fit table.now self.old.party self.old.state }
         ensures fits { Keeps table.now self.new.party self.new.state result }
-        ensures plays { (us : List Tree) → Lists table.now us → Plays table.now (says turn.limits turn.line turn.at us (makes_of made.now) (tree_in table.now term) (player_of table.now self.old)) self.new result }
+        ensures plays { (us : List Tree) → Lists table.now us → Plays table.now (says turn.limits turn.line turn.at turn.role us (makes_of made.now) (tree_in table.now term) (player_of table.now self.old)) self.new result }
     {
         let view = View {
             table,
@@ -103,7 +105,7 @@ impl Role {
         };
         match self.state.say(view, made, term) {
             Ok(()) => self.end_line(turn),
-            Err(fault) => Err(fault.of_role(self.name, turn.at)),
+            Err(fault) => Err(fault.of_role(turn.role, turn.at)),
         }
     }
 
@@ -119,7 +121,7 @@ impl Role {
         };
         match self.state.hear(view, term) {
             Ok(()) => self.end_line(turn),
-            Err(fault) => Err(fault.of_role(self.name, turn.at)),
+            Err(fault) => Err(fault.of_role(turn.role, turn.at)),
         }
     }
 

@@ -101,6 +101,7 @@ impl Translation {
         let turn = Turn {
             line: number,
             at: message.place(),
+            role: sender,
             limits: input.limits,
         };
         let before = self.declarations.terms().len();

@@ -26,7 +26,7 @@ returns-in-Ok c =
     let t = c.args.declarations.now.terms in
     let e = rw c.terms.ensures at c.in-Ok.ensures in
     let r : Role = record { name = c.args.number; part = c.args.name.part; rows = c.new.result; party = c.in_ok-party.party; state = c.new-2.result } in record {
-      fits = (line_ended t (record { line = 0; at = c.args.name.at; limits = c.args.limits }) r c.start.new.self _ refl (record { knows = e.1; orderly = e.2 })
+      fits = (line_ended t (record { line = 0; at = c.args.name.at; role = 0; limits = c.args.limits }) r c.start.new.self _ refl (record { knows = e.1; orderly = e.2 })
           c.end_line.new.self (Ok tt) c.end_line.ensures.rest c.in_ok-end_line-in-Ok.ensures.ends).0;
       starts =
           begun t c.args.limits (scope_of c.args.declarations.now) c.args.number c.args.name r refl refl c.new.ensures.items c.in_ok-party.ensures.functions

@@ -52,7 +52,7 @@ returns-in_err-say c =
           d.terms (vec_items c.args.self.now.roles) c.requires.fit d'.terms (table_grows text _ m d d' c.in_ok-term.term w) (scope_of d') w.0
           c.place.result c.place.ensures _ those c.in_ok-term.term (number_tree text _ m d d' c.in_ok-term.term w) c.requires.sender c.index_mut.result.now c.say.new.self c.index_mut.ensures.value
           c.in_err-say.field-0.0
-          (subst (λ t. Plays t (says c.args.input.limits c.args.number c.place.result (trees_of d'.terms) (makes_of c.as_slice.result.now) (tree_in t c.in_ok-term.term) (player_of t c.index_mut.result.now)) c.say.new.self (Err c.in_err-say.field-0.0))
+          (subst (λ t. Plays t (says c.args.input.limits c.args.number c.place.result c.args.sender (trees_of d'.terms) (makes_of c.as_slice.result.now) (tree_in t c.in_ok-term.term) (player_of t c.index_mut.result.now)) c.say.new.self (Err c.in_err-say.field-0.0))
           c.terms-table.ensures (c.in_err-say.ensures.plays (trees_of d'.terms) (rw c.terms-table.ensures (lists_of d'.terms)))));
     }
 
