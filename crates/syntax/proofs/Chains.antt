@@ -19,7 +19,7 @@ use Rattle.syntax.proofs.Forms.{stands_misfit}
 use Rattle.syntax.proofs.Spelled.{same, same_other, spelled, barred_so}
 
 -- What a bracket is read as, by its symbol.
-abbrev declared_by : List ℕ → Tree → ℕ → Trees → Symbol → Shaped Declared
+abbrev pub declared_by : List ℕ → Tree → ℕ → Trees → Symbol → Shaped Declared
 declared_by text t at ts y =
     cond (same y symbols.Type) (type_of text at ts)
     (cond (same y symbols.TypeShared) (shared_of text at ts)
@@ -27,23 +27,23 @@ declared_by text t at ts y =
     (cond (same y symbols.EverybodyKnows) (everybody_of text at ts)
     (Err (misfit text t)))))
 
-abbrev lined_by : List ℕ → Tree → ℕ → Trees → Symbol → Shaped Lined
+abbrev pub lined_by : List ℕ → Tree → ℕ → Trees → Symbol → Shaped Lined
 lined_by text t at ts y =
     cond (same y symbols.Comm) (comm_of text at ts)
     (cond (same y symbols.Block) (Err (NotCarried at))
     (Err (misfit text t)))
 
-abbrev term_by : List ℕ → Tree → ℕ → Trees → Symbol → Shaped Term
+abbrev pub term_by : List ℕ → Tree → ℕ → Trees → Symbol → Shaped Term
 term_by text t at ts y =
     cond (same y symbols.Tuple) (tuple_term text at ts)
     (cond (same y symbols.Crypt) (crypt_term text at ts)
     (cond (same y symbols.Apply) (apply_term text at ts)
     (Err (misfit text t))))
 
-abbrev function_type : Bool → Bool → Symbol
+abbrev pub function_type : Bool → Bool → Symbol
 function_type secret one_way = symbols.FunctionType (record { secret = secret; one_way = one_way })
 
-abbrev shared_by : List ℕ → Name → Tree → ℕ → Trees → Symbol → Shaped Declared
+abbrev pub shared_by : List ℕ → Name → Tree → ℕ → Trees → Symbol → Shaped Declared
 shared_by text n t at ts y =
     cond (same y (function_type false false)) (function_of text n false false at ts)
     (cond (same y (function_type true false)) (function_of text n true false at ts)
@@ -55,19 +55,19 @@ module _ (text : List ℕ) (at : ℕ) (s : Part) (ts : Trees) (y : Symbol) (e : 
   by : (word : String) (x : Symbol) → found (codes word) carried ≡ Some x → spells text s word ≡ same y x
   by word x is = spelled (bytes text s) (codes word) x y is e
 
-  declaration_by : declaration text (bracket at s ts) ≡ declared_by text (bracket at s ts) at ts y
+  pub declaration_by : declaration text (bracket at s ts) ≡ declared_by text (bracket at s ts) at ts y
   unfolding found
   declaration_by = rw (by "type" symbols.Type refl, by "type-shared" symbols.TypeShared refl, by "knows" symbols.Knows refl, by "everybody-knows" symbols.EverybodyKnows refl) refl
 
-  line_by : line text (bracket at s ts) ≡ lined_by text (bracket at s ts) at ts y
+  pub line_by : line text (bracket at s ts) ≡ lined_by text (bracket at s ts) at ts y
   unfolding found
   line_by = rw (by "comm" symbols.Comm refl, by "block" symbols.Block refl) refl
 
-  bracket_by : term text (bracket at s ts) ≡ term_by text (bracket at s ts) at ts y
+  pub bracket_by : term text (bracket at s ts) ≡ term_by text (bracket at s ts) at ts y
   unfolding found term
   bracket_by = rw (by "tuple" symbols.Tuple refl, by "crypt" symbols.Crypt refl, by "apply" symbols.Apply refl) refl
 
-  shared_as_by : (n : Name) → shared_as text n (bracket at s ts) ≡ shared_by text n (bracket at s ts) at ts y
+  pub shared_as_by : (n : Name) → shared_as text n (bracket at s ts) ≡ shared_by text n (bracket at s ts) at ts y
   unfolding found
   shared_as_by n = rw (by "function" (function_type false false) refl, by "secret-function" (function_type true false) refl, by "one-way-function" (function_type false true) refl, by "secret-one-way-function" (function_type true true) refl) refl
 

@@ -5,3 +5,4 @@ pub mod Parts
 pub mod Rest
 pub mod Spelled
 pub mod Terming
+pub mod TreeFaults

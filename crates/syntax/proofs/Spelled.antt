@@ -127,7 +127,7 @@ same x y = (symbol_eq.ghosts).eq x y
 pub same_symbol : (x y : Symbol) → same x y ≡ true → x ≡ y
 same_symbol x y h = search rules
 
-same_itself : (x : Symbol) → same x x ≡ true
+pub same_itself : (x : Symbol) → same x x ≡ true
 same_itself x = search rules
 
 pub same_other : (x y : Symbol) → (x ≡ y → ⊥) → same x y ≡ false

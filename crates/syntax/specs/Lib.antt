@@ -6,3 +6,4 @@ pub mod Shape
 pub mod Specs
 pub mod Symbols
 pub mod Views
+pub mod TreeFaults

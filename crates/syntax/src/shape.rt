@@ -3,6 +3,7 @@ ghost use Rattle.std.specs.Prelude.{◌≡◌, map};
 ghost use Rattle.text.specs.Nodes.{tree_of};
 ghost use Rattle.syntax.specs.Shape as shape;
 ghost use Rattle.syntax.specs.Seeing as seeing;
+ghost use Rattle.syntax.specs.TreeFaults.{ShapeLaw};
 ghost use Rattle.syntax.specs.Views.{declared_of, line_of};
 
 use crate::fault::ShapeFault;
@@ -15,9 +16,12 @@ use text::node::Node;
 const MOST_LINES: usize = 64;
 
 impl Source<'_> {
-    // The specification that the tree is.
+    /// The specification that a tree is. The first node with a fault is refused, where it stands in the text, with the fault that
+    /// has the highest number there.
+    #[tactic(auto, using(crate::proofs::TreeFaults::shape_law))]
     pub fn spec(self, root: &Node) -> Result<Spec, ShapeFault>
-        ensures { seeing.Shapes (shape.shape self.entry.text.now (tree_of root.now)) result }
+        ensures law { ShapeLaw self.entry.text.now }
+        ensures shapes { seeing.Shapes (shape.shape self.entry.text.now (tree_of root.now)) result }
     {
         let Bracket { at, parts, .. } = self.form(root, Symbol::Spec)?;
         let [declare, block, sessions, assume, claim] = parts else {

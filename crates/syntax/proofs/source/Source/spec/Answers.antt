@@ -17,42 +17,42 @@ so : (text : List ℕ) (t : Tree) (f : Bracket) → Formed text symbols.Spec t (
 unfolding found specification
 so text t f h d b s a c l p q r u v = formed text "spec" (λ at ts. five_parts at ts (specification text)) t f (h "spec" refl) ∙ five_so f.at (specification text) f.parts.now d b s a c l p q r u v
 
-pub returns-in_err-at : goal.returns-in_err-at
+pub returns-in_err-at-clause-shapes : goal.returns-in_err-at-clause-shapes
 unfolding found
-returns-in_err-at c =
+returns-in_err-at-clause-shapes c =
     let p = err_from_is_err_and c.from_residual.result c.from_residual.ensures.1 in
     rw (p.1, p.2) (λ _. formed_fault c.args.self.text.now "spec" (λ at ts. five_parts at ts (specification c.args.self.text.now)) (tree_of c.args.root.now) c.in_err-at.field-0.0 (c.in_err-at.ensures "spec" refl))
 
-pub returns-in_default : goal.returns-in_default
+pub returns-in_default-clause-shapes : goal.returns-in_default-clause-shapes
 unfolding found
-returns-in_default c = λ _. formed c.args.self.text.now "spec" (λ at ts. five_parts at ts (specification c.args.self.text.now)) (tree_of c.args.root.now) c.in_ok-at.field-0 (c.in_ok-at.ensures "spec" refl) ∙ not_five c.in_ok-at.field-0.at (specification c.args.self.text.now) c.in_ok-at.field-0.parts.now (λ e. grind arith)
+returns-in_default-clause-shapes c = λ _. formed c.args.self.text.now "spec" (λ at ts. five_parts at ts (specification c.args.self.text.now)) (tree_of c.args.root.now) c.in_ok-at.field-0 (c.in_ok-at.ensures "spec" refl) ∙ not_five c.in_ok-at.field-0.at (specification c.args.self.text.now) c.in_ok-at.field-0.parts.now (λ e. grind arith)
 
-pub returns-in_err-declarations : goal.returns-in_err-declarations
-returns-in_err-declarations c =
+pub returns-in_err-declarations-clause-shapes : goal.returns-in_err-declarations-clause-shapes
+returns-in_err-declarations-clause-shapes c =
     let p = err_from_is_err_and c.from_residual-in_err-declarations.result c.from_residual-in_err-declarations.ensures.1 in
     rw (p.1, p.2) (λ n. so c.args.self.text.now (tree_of c.args.root.now) c.in_ok-at.field-0 c.in_ok-at.ensures c.declare-item.result c.block-item.result c.sessions-item.result c.assume-item.result c.claim-item.result (omega arith) c.declare-item.is c.block-item.is c.sessions-item.is c.assume-item.is c.claim-item.is ∙ rw (c.in_err-declarations.ensures n) refl)
 
-pub returns-in_err-lines : goal.returns-in_err-lines
-returns-in_err-lines c =
+pub returns-in_err-lines-clause-shapes : goal.returns-in_err-lines-clause-shapes
+returns-in_err-lines-clause-shapes c =
     let p = err_from_is_err_and c.from_residual-in_err-lines.result c.from_residual-in_err-lines.ensures.1 in
     rw (p.1, p.2) (λ n. so c.args.self.text.now (tree_of c.args.root.now) c.in_ok-at.field-0 c.in_ok-at.ensures c.declare-item.result c.block-item.result c.sessions-item.result c.assume-item.result c.claim-item.result (omega arith) c.declare-item.is c.block-item.is c.sessions-item.is c.assume-item.is c.claim-item.is ∙ rw (c.in_ok-declarations.ensures, c.in_err-lines.ensures n) refl)
 
-pub returns-in_err-section : goal.returns-in_err-section
-returns-in_err-section c =
+pub returns-in_err-section-clause-shapes : goal.returns-in_err-section-clause-shapes
+returns-in_err-section-clause-shapes c =
     let p = err_from_is_err_and c.from_residual-in_err-section.result c.from_residual-in_err-section.ensures.1 in
     rw (p.1, p.2) (λ n. so c.args.self.text.now (tree_of c.args.root.now) c.in_ok-at.field-0 c.in_ok-at.ensures c.declare-item.result c.block-item.result c.sessions-item.result c.assume-item.result c.claim-item.result (omega arith) c.declare-item.is c.block-item.is c.sessions-item.is c.assume-item.is c.claim-item.is ∙ rw (c.in_ok-declarations.ensures, c.in_ok-lines.ensures, ← c.in_err-section.ensures) refl)
 
-pub returns-in_err-section-2 : goal.returns-in_err-section-2
-returns-in_err-section-2 c =
+pub returns-in_err-section-2-clause-shapes : goal.returns-in_err-section-2-clause-shapes
+returns-in_err-section-2-clause-shapes c =
     let p = err_from_is_err_and c.from_residual-in_err-section-2.result c.from_residual-in_err-section-2.ensures.1 in
     rw (p.1, p.2) (λ n. so c.args.self.text.now (tree_of c.args.root.now) c.in_ok-at.field-0 c.in_ok-at.ensures c.declare-item.result c.block-item.result c.sessions-item.result c.assume-item.result c.claim-item.result (omega arith) c.declare-item.is c.block-item.is c.sessions-item.is c.assume-item.is c.claim-item.is ∙ rw (c.in_ok-declarations.ensures, c.in_ok-lines.ensures, ← c.in_ok-section.ensures, ← c.in_err-section-2.ensures) refl)
 
-pub returns-in_err-section-3 : goal.returns-in_err-section-3
-returns-in_err-section-3 c =
+pub returns-in_err-section-3-clause-shapes : goal.returns-in_err-section-3-clause-shapes
+returns-in_err-section-3-clause-shapes c =
     let p = err_from_is_err_and c.from_residual-in_err-section-3.result c.from_residual-in_err-section-3.ensures.1 in
     rw (p.1, p.2) (λ n. so c.args.self.text.now (tree_of c.args.root.now) c.in_ok-at.field-0 c.in_ok-at.ensures c.declare-item.result c.block-item.result c.sessions-item.result c.assume-item.result c.claim-item.result (omega arith) c.declare-item.is c.block-item.is c.sessions-item.is c.assume-item.is c.claim-item.is ∙ rw (c.in_ok-declarations.ensures, c.in_ok-lines.ensures, ← c.in_ok-section.ensures, ← c.in_ok-section-2.ensures, ← c.in_err-section-3.ensures) refl)
 
-pub returns : goal.returns
-returns c =
+pub returns-clause-shapes : goal.returns-clause-shapes
+returns-clause-shapes c =
     so c.args.self.text.now (tree_of c.args.root.now) c.in_ok-at.field-0 c.in_ok-at.ensures c.declare-item.result c.block-item.result c.sessions-item.result c.assume-item.result c.claim-item.result (omega arith) c.declare-item.is c.block-item.is c.sessions-item.is c.assume-item.is c.claim-item.is
     ∙ rw (c.in_ok-declarations.ensures, c.in_ok-lines.ensures, ← c.in_ok-section.ensures, ← c.in_ok-section-2.ensures, ← c.in_ok-section-3.ensures) refl
