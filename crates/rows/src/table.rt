@@ -1,5 +1,4 @@
 // The row table as a store.
-ghost use Rattle.std.specs.Prelude.{◌≡◌, ◌≤◌, ◌<◌, ℕ, Some};
 ghost use Rattle.rows.specs.Tables.{table};
 ghost use Rattle.rows.specs.Held.{handles_hold};
 ghost use Rattle.rows.specs.Fitting.{handles_fit};

@@ -1,5 +1,5 @@
 // What every store of values offers, by what its handles mean.
-ghost use Rattle.std.specs.Prelude.{◌≡◌, ℕ, ◌<◌, ◌≤◌, [], ◌∷◌, Ok, Some, Option};
+ghost use Rattle.std.specs.Prelude.{◌≡◌, ℕ, ◌<◌, ◌≤◌, [], ◌∷◌, Ok, Some};
 ghost use Rattle.model.specs.Trees.{tupled, crypted, applied, Tree, leaf};
 ghost use Rattle.model.specs.Storable.{Storable};
 ghost use Rattle.store.specs.Semantics.{Semantics};

@@ -1,5 +1,5 @@
 -- A tape as a store.
-use Rattle.std.specs.Prelude.{◌≡◌, ℕ, ◌-◌, List, ◌++◌, take, drop, Some, None, Ok, Err, Result, vec_len}
+use Rattle.std.specs.Prelude.{◌≡◌, ℕ, ◌-◌, List, take, Some, None, Ok, Err, Result, vec_len}
 use Rattle.model.specs.Trees.{Tree}
 use Rattle.store.specs.declared.fault.StoreFault.{StoreFault}
 use Rattle.store.specs.declared.fault.StoreFault.TheVariants.{Invalid}
@@ -7,7 +7,6 @@ use Rattle.model.specs.Tape.{tape_cost}
 use Rattle.store.specs.Semantics.{Semantics}
 use Rattle.tape.specs.declared.tape.Tape.{Tape}
 use Rattle.tape.specs.Values.{meaning, Begins}
-use Rattle.tape.specs.Making.{over}
 
 -- the bytes that are used
 abbrev pub bytes_of : Tape → List ℕ
@@ -26,9 +25,3 @@ pub record Names (t : Tape) (h at : ℕ) : Type 0 where
 abbrev pub Finds : Tape → ℕ → Result ℕ StoreFault → Type 0
 Finds t h (Ok at) = Names t h at
 Finds t h (Err e) = (e ≡ Invalid) × (tape.means t h ≡ None)
-
--- bytes were written behind the used ones, and nothing else was changed
-pub record Writes (t t' : Tape) (ys : List ℕ) : Type 0 where
-  pub used : t'.used ≡ t.used
-  pub bytes : t'.bytes.items ≡ bytes_of t ++ over (drop t.used t.bytes.items) ys
-  pub long : vec_len t'.bytes ≡ vec_len t.bytes

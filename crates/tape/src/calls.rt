@@ -1,5 +1,5 @@
 // A tape as a store.
-ghost use Rattle.std.specs.Prelude.{◌≡◌, vec_len};
+ghost use Rattle.std.specs.Prelude.{vec_len};
 ghost use Rattle.tape.specs.Fitting.{some_cost, tape_handle};
 ghost use Rattle.tape.specs.Tapes.{tape};
 

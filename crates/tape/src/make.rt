@@ -1,13 +1,10 @@
 // Making values on a tape.
-ghost use Rattle.std.specs.Prelude.{◌≡◌, ◌-◌, ◌≤◌, length, Some};
-ghost use Rattle.model.specs.Trees.{Trees};
-ghost use Rattle.model.specs.Tape.{encode};
+ghost use Rattle.std.specs.Prelude.{◌≡◌, ◌≤◌, length};
 ghost use Rattle.store.specs.Makers.{Makes};
-ghost use Rattle.tape.specs.Headers.{header_size, parts_after};
-ghost use Rattle.tape.specs.Values.{build};
+ghost use Rattle.tape.specs.Headers.{parts_after};
 ghost use Rattle.tape.specs.Held.{IsNumbered};
-ghost use Rattle.tape.specs.Making.{parts_on, asked, HaveRoom};
-ghost use Rattle.tape.specs.Tapes.{bytes_of, tape, Writes};
+ghost use Rattle.tape.specs.Making.{asked};
+ghost use Rattle.tape.specs.Tapes.{bytes_of, tape};
 
 use crate::encode::append;
 use crate::header::header_size;
