@@ -4,7 +4,8 @@ ghost use Rattle.run.specs.Shown.{register, vacant};
 ghost use Rattle.run.specs.Actions.{Keeps, filled};
 
 use crate::fault::StepFault;
-use std::alloc::{AllocError, Global};
+use base::NoMemory;
+use std::alloc::Global;
 use std::marker::Model;
 use store::fault::StoreFault;
 
@@ -26,11 +27,11 @@ impl Model for Registers {
 
 impl Registers {
     // So many registers, all empty.
-    pub(crate) fn new(heap: Global, count: usize) -> Result<Registers, AllocError>
+    pub(crate) fn new(heap: Global, count: usize) -> Result<Registers, NoMemory>
         ensures { IfOk result (λ s. s ≡ replicate count vacant) }
     {
         Ok(Registers {
-            cells: vec![in heap; VACANT; count]?,
+            cells: base::repeated(heap, VACANT, count)?,
         })
     }
 

@@ -14,9 +14,10 @@ use crate::said::said;
 use crate::supply::Supply;
 use crate::turn::{Asked, count_news, counts_fit, front, hears};
 use crate::valid::valid;
+use base::NoMemory;
 use program::action::Row;
 use program::held::Program;
-use std::alloc::{AllocError, Global};
+use std::alloc::Global;
 use store::store::Store;
 
 /// A role's run of its program: the registers, each of which holds a handle or nothing, the numbers for new atoms, of which some
@@ -44,13 +45,13 @@ impl<'a> Run<'a> {
     ghost use Rattle.run.specs.Looked.{looked};
 
     /// A run of a program, before its begin. It takes all the memory that it will need: as many registers as the program fills, and
-    /// room for as many numbers as it makes atoms.
-    pub fn new(heap: Global, program: Program<'a>) -> Result<Run<'a>, AllocError>
+    /// room for as many numbers as it makes atoms. It is refused only where memory lacks.
+    pub fn new(heap: Global, program: Program<'a>) -> Result<Run<'a>, NoMemory>
         ensures { IfOk result (New program.entry) }
     {
         let rows = program.rows();
         let registers = Registers::new(heap, width(rows))?;
-        let numbers = Vec::with_capacity(heap, count_news(rows))?;
+        let numbers = base::with_room(heap, count_news(rows))?;
         Ok(Run {
             program,
             registers,

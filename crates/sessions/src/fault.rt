@@ -69,3 +69,11 @@ impl From<AllocError> for RunsFault {
         RunsFault::NoMemory
     }
 }
+
+impl From<NoMemory> for RunsFault {
+    ghost from_gives = { λ e r. r ≡ runs.NoMemory };
+
+    fn from(_lack: NoMemory) -> RunsFault {
+        RunsFault::NoMemory
+    }
+}

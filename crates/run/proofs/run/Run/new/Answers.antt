@@ -15,4 +15,4 @@ invariant_of-result-clause-empty_ahead c r e = ap (λ cells. register cells r) c
 
 pub invariant_of-result-clause-reserved : goal.invariant_of-result-clause-reserved
 invariant_of-result-clause-reserved c =
-    omega (arith, c.in_ok-numbers.ensures.capacity, c.count_news.ensures, ap (λ (xs : List Row). news (map row_act xs)) c.rows-rows.ensures)
+    omega (arith, c.in_ok-numbers.ensures.room, c.count_news.ensures, ap (λ (xs : List Row). news (map row_act xs)) c.rows-rows.ensures)
