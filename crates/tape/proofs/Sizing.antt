@@ -12,7 +12,7 @@ use Rattle.tape.specs.Values.{starts, meaning, IsWhole, Stands, Begins}
 use Rattle.tape.specs.Making.{parts_on, size_answer}
 use Rattle.tape.proofs.Reaching.{value_there, nowhere, anywhere}
 use Rattle.tape.proofs.Ending.{stands_within}
-use Rattle.tape.proofs.Gathering.{before, encode_before, flat_push, Found, none_found, one_found, one_invalid, all_found}
+use Rattle.tape.proofs.Gathering.{before, encode_before, flat_push, Found, one_found, one_invalid, all_found}
 
 module _ (bs hs : List ℕ) where
   -- so many bytes have the parts before an index
@@ -21,9 +21,6 @@ module _ (bs hs : List ℕ) where
     pub found : Found (meaning bs) hs i values
     pub total : size ≡ length (flat_map encode values)
     pub few : size ≤ 65535 * i
-
-  pub none_sized : Sized 0 0
-  none_sized = record { values = []; found = none_found (meaning bs) hs; total = refl; few = omega arith }
 
   pub one_sized : IsWhole bs → length bs ≤ 65535 → (i size h n : ℕ) → Sized i size → h ≡ get_or hs i 0 → i < length hs → starts 0 bs h ≡ true
       → ((v : Tree) → Stands bs h v → n ≡ length (encode v)) → Sized (i + 1) (size + n)
@@ -57,9 +54,6 @@ module _ (bs hs : List ℕ) where
     pub found : Found (meaning bs) hs i values
     pub placed : at ≡ length (flat_map encode values)
     pub copied : out ≡ flat_map encode values ++ drop at old
-
-  pub none_copied : (out : List ℕ) → Copied out out 0 0
-  none_copied out = record { values = []; found = none_found (meaning bs) hs; placed = refl; copied = refl }
 
   never : {A : Type 0} (ts : Trees) → parts_on bs hs ≡ None → parts_on bs hs ≡ Some ts → A
   never ts p q = absurd (let z : ◌≡◌ {A = Option Trees} None (Some ts) = sym p ∙ q in cc)

@@ -11,12 +11,6 @@ pub record Passed (bs : List ℕ) (h at : ℕ) : Type 0 where
   pub before : at ≤ h → starts 0 bs h ≡ starts 0 (drop at bs) (h - at)
   pub beyond : h < at → starts 0 bs h ≡ false
 
-pub none_passed : (bs : List ℕ) (h : ℕ) → Passed bs h 0
-none_passed bs h = record {
-  before = λ l. ap (starts 0 bs) (omega arith);
-  beyond = λ l. absurd (omega arith);
-}
-
 pub one_passed : (bs : List ℕ) (h at n : ℕ) → Passed bs h at → at < h → at < length bs → n ≡ header_size (header (drop at bs)) → Passed bs h (at + n)
 one_passed bs h at n p l m e =
     let long : 0 < length (drop at bs) = let q = length-drop at bs in omega arith in
