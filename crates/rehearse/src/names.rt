@@ -27,7 +27,7 @@ pub(crate) fn given_terms(declarations: &Declarations) -> usize {
 // The names that some line makes.
 pub(crate) fn made_names(heap: Global, translation: &Translation) -> Result<Vec<u8>, TermFault> {
     let declarations = &translation.declarations;
-    declarations.made_since(heap, given_terms(declarations))
+    Ok(declarations.made_since(heap, given_terms(declarations))?)
 }
 
 // Whether one of some names stands in a term.
