@@ -6,3 +6,4 @@ pub mod Rest
 pub mod Spelled
 pub mod Terming
 pub mod TreeFaults
+pub mod Spelling

@@ -21,6 +21,7 @@ use Rattle.syntax.specs.declared.symbol.Section.TheVariants as sections
 use Rattle.syntax.specs.declared.symbol.FunctionClass.{FunctionClass}
 use Rattle.syntax.proofs.Chains.{term_by, shared_by, declared_by, lined_by, function_type}
 use Rattle.syntax.proofs.Chains as chains
+use Rattle.syntax.proofs.Spelling.{spelled_so}
 use Rattle.syntax.proofs.Spelled.{same_symbol, same_itself, carried_so, uncarried_so, spelled, section_found}
 use Rattle.syntax.specs.TreeFaults.{Standing, is, is_function_type, belongs, takes_name, takes_integer, empty_list, inner_block, is_barred, right_count, few_parts, Faulty, number, part_of, Node, nodes, nodes_from, Sound, AllSound, FirstFault, ShapeLaw}
 use Rattle.syntax.specs.TreeFaults as faults
@@ -744,4 +745,5 @@ module _ (text : List ℕ) where
       (λ x. all_sound (nodes text t faults.root) (sym (shape_faults t) ∙ ap forget x.1)),
       (λ s. remembered (shape text t) (shape_faults t ∙ none_first (nodes text t faults.root) s)),
     );
+    spelled = spelled_so text;
   }

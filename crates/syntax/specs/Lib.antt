@@ -7,3 +7,4 @@ pub mod Specs
 pub mod Symbols
 pub mod Views
 pub mod TreeFaults
+pub mod Spelling

@@ -13,6 +13,7 @@ use Rattle.syntax.specs.Names.{is_name}
 use Rattle.syntax.specs.Symbols.{symbol}
 use Rattle.syntax.specs.Shape.{bytes, parts_count, shape}
 use Rattle.syntax.specs.Specs.{Specification}
+use Rattle.syntax.specs.Spelling.{Spells}
 
 -- Where a node stands: what is wanted there.
 pub data Standing : Type 0 where
@@ -199,7 +200,9 @@ module _ (text : List ℕ) where
     pub faulty : Faulty text node.tree node.standing f
     pub highest : (g : ShapeFault) → Faulty text node.tree node.standing g → number g ≤ number f
 
-  -- A tree is refused exactly with its first fault, and accepted exactly if none of its nodes is at fault.
+  -- A tree is refused exactly with its first fault, and accepted exactly if none of its nodes is at fault; then the specification is
+  -- one that the tree spells.
   pub record ShapeLaw : Type 0 where
     pub refused : (t : Tree) (f : ShapeFault) → (shape text t ≡ Err f) ↔ FirstFault (nodes t root) f
     pub accepted : (t : Tree) → ((X : Specification) × (shape text t ≡ Ok X)) ↔ AllSound (nodes t root)
+    pub spelled : (t : Tree) (X : Specification) → shape text t ≡ Ok X → Spells text t X

@@ -99,7 +99,7 @@ impl TermTable {
         if let Some(term) = find_row(&self.rows, &row) {
             return Ok(term);
         }
-        let term = self.rows.len();
+        let term = self.len();
         if term >= most || term > 65535 {
             return Err(TermFault::Limit { at });
         }
