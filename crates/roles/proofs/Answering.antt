@@ -64,7 +64,7 @@ module _ (limits : Limits) (bytes : List ℕ) where
           lines_refused (line.WrongType at) e = inl (from_scope ∙ ap (refused_by Lines) (sym is ∙ e))
           lines_refused (line.Repeated at) e = inl (from_scope ∙ ap (refused_by Lines) (sym is ∙ e))
           lines_refused (line.Underivable at n k) e = inl (from_scope ∙ ap (refused_by Lines) (sym is ∙ e))
-          lines_refused line.NoMemory e = inr refl
+          lines_refused (line.Exhausted w) e = inr refl
 
           pub all_done : (T : Translation) → q ≡ Ok (stage_of T) → translation limits bytes ≡ Ok (stage_of T)
           all_done T w = from_scope ∙ ap (refused_by Lines) (sym is ∙ w)

@@ -8,7 +8,7 @@ use Rattle.terms.specs.Scope.{Scope}
 use Rattle.terms.specs.Starting.{given_to}
 use Rattle.terms.specs.Terms.{tree_in}
 use Rattle.roles.specs.declared.line_fault.LineFault.{LineFault}
-use Rattle.roles.specs.declared.line_fault.LineFault.TheVariants.{Limit, Undeclared, WrongType, Repeated, Underivable, NoMemory}
+use Rattle.roles.specs.declared.line_fault.LineFault.TheVariants.{Limit, Undeclared, WrongType, Repeated, Underivable, Exhausted}
 use Rattle.roles.specs.declared.role.Role.{Role}
 use Rattle.roles.specs.declared.state.RoleState.{RoleState}
 use Rattle.roles.specs.Ended.{KeepsRest, Ends}
@@ -32,7 +32,7 @@ module _ (t : TermTable) (limits : Limits) (S : Scope) (n : ℕ) (name : Name) w
   as_started r (Err (WrongType at)) p = p
   as_started r (Err (Repeated at)) p = p
   as_started r (Err (Underivable at m k)) p = p
-  as_started r (Err NoMemory) p = tt
+  as_started r (Err (Exhausted w)) p = tt
 
   module _ (r : Role) (rn : r.name ≡ n) (rp : r.part ≡ name.part) (rr : vec_items r.rows ≡ [])
       (rf : vec_items r.party.functions ≡ functions_from n S.rights 0 S.functions) (ks : List ℕ) (g : map (tree_in t) ks ≡ given_to n S.starts) where

@@ -5,7 +5,7 @@ use Rattle.terms.specs.declared.table.TermTable.{TermTable}
 use Rattle.terms.specs.Declaring.{bind}
 use Rattle.terms.specs.Terms.{Grows}
 use Rattle.roles.specs.declared.line_fault.LineFault.{LineFault}
-use Rattle.roles.specs.declared.line_fault.LineFault.TheVariants.{Limit, Undeclared, WrongType, Repeated, Underivable, NoMemory}
+use Rattle.roles.specs.declared.line_fault.LineFault.TheVariants.{Limit, Undeclared, WrongType, Repeated, Underivable, Exhausted}
 use Rattle.roles.specs.declared.role.Role.{Role}
 use Rattle.roles.specs.AllRoles.{AllFit}
 use Rattle.roles.specs.Players.{player_of, Plays}
@@ -21,7 +21,7 @@ refused_through o k (Undeclared p) q = ap (λ x. bind x k) q
 refused_through o k (WrongType p) q = ap (λ x. bind x k) q
 refused_through o k (Repeated p) q = ap (λ x. bind x k) q
 refused_through o k (Underivable p n t) q = ap (λ x. bind x k) q
-refused_through o k NoMemory q = tt
+refused_through o k (Exhausted w) q = tt
 
 pub refused_path : {A : Type 0} {o u : Result A LineFault} (e : LineFault) → o ≡ u → Refused u e → Refused o e
 refused_path e q r = subst⁻¹ (λ x. Refused x e) q r
@@ -32,7 +32,7 @@ refused_play t o r (Undeclared p) q = absurd q
 refused_play t o r (WrongType p) q = absurd q
 refused_play t o r (Repeated p) q = absurd q
 refused_play t o r (Underivable p n k) q = q
-refused_play t o r NoMemory q = tt
+refused_play t o r (Exhausted w) q = tt
 
 -- one of the roles does something
 module _ (g : Role → Player) (f : Player → Result Player LineFault) where

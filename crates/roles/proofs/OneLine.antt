@@ -9,7 +9,7 @@ use Rattle.terms.specs.declared.fault.TermFault.{TermFault}
 use Rattle.terms.specs.declared.limits.Limits.{Limits}
 use Rattle.terms.specs.Declaring.{bind, principal}
 use Rattle.roles.specs.declared.line_fault.LineFault.{LineFault}
-use Rattle.roles.specs.declared.line_fault.LineFault.TheVariants.{Limit, Undeclared, WrongType, Repeated, Underivable, NoMemory}
+use Rattle.roles.specs.declared.line_fault.LineFault.TheVariants.{Limit, Undeclared, WrongType, Repeated, Underivable, Exhausted}
 use Rattle.roles.specs.declared.translation.Translation.{Translation}
 use Rattle.roles.specs.Playing.{Player}
 use Rattle.roles.specs.Refusals.{to_line}
@@ -25,7 +25,7 @@ refused_is (Undeclared p) e = e
 refused_is (WrongType p) e = e
 refused_is (Repeated p) e = e
 refused_is (Underivable p n k) e = e
-refused_is NoMemory e = tt
+refused_is (Exhausted w) e = tt
 
 -- a role that has its place keeps it when another comes
 place_kept : (n : ℕ) (ps more : List Player) → place_among n ps < length ps → place_among n (ps ++ more) ≡ place_among n ps

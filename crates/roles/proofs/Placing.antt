@@ -13,7 +13,7 @@ use Rattle.terms.specs.Declaring.{bind}
 use Rattle.terms.specs.Scope.{Scope}
 use Rattle.terms.specs.Starting.{given_to}
 use Rattle.roles.specs.declared.line_fault.LineFault.{LineFault}
-use Rattle.roles.specs.declared.line_fault.LineFault.TheVariants.{Limit, Undeclared, WrongType, Repeated, Underivable, NoMemory}
+use Rattle.roles.specs.declared.line_fault.LineFault.TheVariants.{Limit, Undeclared, WrongType, Repeated, Underivable, Exhausted}
 use Rattle.roles.specs.declared.role.Role.{Role}
 use Rattle.roles.specs.Players.{player_of}
 use Rattle.roles.specs.Playing.{Player, over}
@@ -94,7 +94,7 @@ module _ (t : TermTable) (n : ℕ) where
         not_begun (WrongType p) q = absurd q
         not_begun (Repeated p) q = absurd q
         not_begun (Underivable p m k) q = role_begins ∙ ap (λ o. bind o (λ y. Ok (record { scope = U; players = map (player_of t) rs ++ (y ∷ []) }))) q
-        not_begun NoMemory q = tt
+        not_begun (Exhausted w) q = tt
 
         pub one_more : (r : Role) → StartsAs t (started limits U n x) (Ok r) → with_role limits text n x stage ≡ Ok (record { scope = U; players = map (player_of t) (rs ++ (r ∷ [])) })
         one_more r q =

@@ -15,7 +15,7 @@ use Rattle.terms.proofs.Tables.{one_term}
 use Rattle.roles.specs.declared.fault.Fault.{Fault}
 use Rattle.roles.specs.declared.fault.Fault.TheVariants as lacking
 use Rattle.roles.specs.declared.line_fault.LineFault.{LineFault}
-use Rattle.roles.specs.declared.line_fault.LineFault.TheVariants.{Limit, Undeclared, WrongType, Repeated, Underivable, NoMemory}
+use Rattle.roles.specs.declared.line_fault.LineFault.TheVariants.{Limit, Undeclared, WrongType, Repeated, Underivable, Exhausted}
 use Rattle.roles.specs.declared.role.Role.{Role}
 use Rattle.roles.specs.declared.role.Turn.{Turn}
 use Rattle.roles.specs.declared.state.RoleState.{RoleState}
@@ -68,7 +68,7 @@ module _ (t : TermTable) (turn : Turn) (r : Role) (s : RoleState) (S : model.Rol
   played f r' (Err (WrongType p)) k d = d
   played f r' (Err (Repeated p)) k d = d
   played f r' (Err (Underivable p n u)) k d = elim d [ ]
-  played f r' (Err NoMemory) k d = tt
+  played f r' (Err (Exhausted w)) k d = tt
 
   -- a role that is refused keeps nothing to speak of
   kept : Fit t r.party s → (r' : Role) (x : Result (Unit {0}) LineFault) → KeepsRest (with_state r s) r' → Keeps t r'.party r'.state x
@@ -108,7 +108,7 @@ module _ (t : TermTable) (turn : Turn) (r : Role) (term : ℕ) where
       → (x : LineFault) → x ≡ refused_as turn.role turn.at f → (r' : Role) → Plays t (says turn.limits turn.line turn.at turn.role us (makes_of made) (tree_in t term) (player_of t r)) r' (Err x)
   not_said made us l s (lacking.Lacks u) d x e r' =
       rw e (ap (said_so turn.limits turn.line turn.at turn.role us (player_of t r)) d.0 ∙ ap (λ k. Err (Underivable turn.at turn.role k)) (numbered t us l u d.1))
-  not_said made us l s lacking.NoMemory d x e r' = rw e tt
+  not_said made us l s (lacking.Exhausted w) d x e r' = rw e tt
 
   pub said_well : (made : List ℕ) (us : List Tree) (s : RoleState)
       → said (party_of (vec_items r.party.functions)) (makes_of made) (tree_in t term) (role_of (tree_in t) r.state) ≡ spoke (role_of (tree_in t) s)

@@ -4,9 +4,9 @@ use Rattle.program.specs.declared.action.Action.{Action}
 use Rattle.program.specs.declared.action.Row.{Row}
 use Rattle.terms.specs.declared.limits.Limits.{Limits}
 use Rattle.roles.specs.declared.line_fault.LineFault.{LineFault}
-use Rattle.roles.specs.declared.line_fault.LineFault.TheVariants.{Limit, Undeclared, WrongType, Repeated, Underivable, NoMemory}
+use Rattle.roles.specs.declared.line_fault.LineFault.TheVariants.{Limit, Undeclared, WrongType, Repeated, Underivable, Exhausted}
 use Rattle.roles.specs.declared.fault.Fault.{Fault}
-use Rattle.roles.specs.declared.fault.Fault.TheVariants.{Lacks, NoMemory as OutOfMemory}
+use Rattle.roles.specs.declared.fault.Fault.TheVariants.{Lacks, Exhausted as Spent}
 use Rattle.roles.specs.declared.role.Role.{Role}
 
 abbrev pub row : ℕ → Action → Row
@@ -31,9 +31,9 @@ Ends limits line at r r' (Err (Undeclared p)) = ⊥
 Ends limits line at r r' (Err (WrongType p)) = ⊥
 Ends limits line at r r' (Err (Repeated p)) = ⊥
 Ends limits line at r r' (Err (Underivable p n k)) = ⊥
-Ends limits line at r r' (Err NoMemory) = Unit {0}
+Ends limits line at r r' (Err (Exhausted w)) = too_much limits r ≡ false
 
 -- a fault of composing, of a role at a place
 abbrev pub refused_as : ℕ → ℕ → Fault → LineFault
 refused_as name at (Lacks u) = Underivable at name u
-refused_as name at OutOfMemory = NoMemory
+refused_as role at (Spent w) = Exhausted w

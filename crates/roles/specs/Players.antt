@@ -6,7 +6,7 @@ use Rattle.program.specs.Actions.{act_of}
 use Rattle.terms.specs.declared.table.TermTable.{TermTable}
 use Rattle.terms.specs.Terms.{tree_in}
 use Rattle.roles.specs.declared.line_fault.LineFault.{LineFault}
-use Rattle.roles.specs.declared.line_fault.LineFault.TheVariants.{Limit, Undeclared, WrongType, Repeated, Underivable, NoMemory}
+use Rattle.roles.specs.declared.line_fault.LineFault.TheVariants.{Limit, Undeclared, WrongType, Repeated, Underivable, Exhausted}
 use Rattle.roles.specs.declared.role.Role.{Role}
 use Rattle.roles.specs.Parties.{party_of}
 use Rattle.roles.specs.States.{role_of}
@@ -34,4 +34,4 @@ Plays t o r' (Err (Undeclared p)) = ⊥
 Plays t o r' (Err (WrongType p)) = ⊥
 Plays t o r' (Err (Repeated p)) = ⊥
 Plays t o r' (Err (Underivable p n k)) = o ≡ Err (Underivable p n k)
-Plays t o r' (Err NoMemory) = Unit {0}
+Plays t o r' (Err (Exhausted w)) = Unit {0}

@@ -20,14 +20,14 @@ line_refusal (line.Undeclared p) = refuse causes.Undeclared layers.Lines p
 line_refusal (line.WrongType p) = refuse causes.WrongType layers.Lines p
 line_refusal (line.Repeated p) = refuse causes.Repeated layers.Lines p
 line_refusal (line.Underivable p r t) = refuse causes.Underivable layers.Lines p
-line_refusal line.NoMemory = None
+line_refusal (line.Exhausted w) = None
 
 -- a term's fault in a line
 abbrev pub to_line : TermFault → LineFault
 to_line (term.Limit p) = line.Limit p
 to_line (term.Undeclared p) = line.Undeclared p
 to_line (term.WrongType p) = line.WrongType p
-to_line (term.NoMemory w) = line.NoMemory
+to_line (term.NoMemory w) = line.Exhausted (record { seen = tt })
 
 abbrev pub translation_refusal : TranslationFault → Option Refusal
 translation_refusal (Text f) = text_refusal f

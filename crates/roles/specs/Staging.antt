@@ -2,7 +2,7 @@
 use Rattle.std.specs.Prelude.{◌≡◌, ℕ, ◌<◌, ◌⊎◌, List, map, length, None, Ok, Err, vec_items, Result}
 use Rattle.terms.specs.Meanings.{scope_of}
 use Rattle.roles.specs.declared.line_fault.LineFault.{LineFault}
-use Rattle.roles.specs.declared.line_fault.LineFault.TheVariants.{Limit, Undeclared, WrongType, Repeated, Underivable, NoMemory}
+use Rattle.roles.specs.declared.line_fault.LineFault.TheVariants.{Limit, Undeclared, WrongType, Repeated, Underivable, Exhausted}
 use Rattle.roles.specs.declared.translation.Translation.{Translation}
 use Rattle.roles.specs.declared.translation_fault.TranslationFault.{TranslationFault}
 use Rattle.roles.specs.Players.{player_of}
@@ -24,7 +24,7 @@ Refused q (Undeclared p) = q ≡ Err (Undeclared p)
 Refused q (WrongType p) = q ≡ Err (WrongType p)
 Refused q (Repeated p) = q ≡ Err (Repeated p)
 Refused q (Underivable p n k) = q ≡ Err (Underivable p n k)
-Refused q NoMemory = Unit {0}
+Refused q (Exhausted w) = Unit {0}
 
 abbrev pub Comes : Result Stage LineFault → Translation → Result (Unit {0}) LineFault → Type 0
 Comes q T (Ok x) = q ≡ Ok (stage_of T)

@@ -10,7 +10,7 @@ use Rattle.terms.specs.declared.table.TermTable.{TermTable}
 use Rattle.terms.specs.Scope.{Scope, Signature}
 use Rattle.terms.specs.Starting.{given_to, has_right}
 use Rattle.roles.specs.declared.line_fault.LineFault.{LineFault}
-use Rattle.roles.specs.declared.line_fault.LineFault.TheVariants.{Limit, Undeclared, WrongType, Repeated, Underivable, NoMemory}
+use Rattle.roles.specs.declared.line_fault.LineFault.TheVariants.{Limit, Undeclared, WrongType, Repeated, Underivable, Exhausted}
 use Rattle.roles.specs.declared.party.Function.{Function}
 use Rattle.roles.specs.declared.role.Role.{Role}
 use Rattle.roles.specs.Parties.{party_of}
@@ -43,4 +43,4 @@ StartsAs t o (Err (Undeclared p)) = ⊥
 StartsAs t o (Err (WrongType p)) = ⊥
 StartsAs t o (Err (Repeated p)) = ⊥
 StartsAs t o (Err (Underivable p n k)) = o ≡ Err (Underivable p n k)
-StartsAs t o (Err NoMemory) = Unit {0}
+StartsAs t o (Err (Exhausted w)) = Unit {0}

@@ -1,6 +1,6 @@
 // Which terms a role can compose from what it knows, with no name made: all of them at once, parts before wholes.
 ghost use Rattle.std.specs.Prelude.{◌≡◌, MatchResult};
-ghost use Rattle.roles.specs.declared.fault.Fault.TheVariants.{NoMemory};
+ghost use Rattle.roles.specs.declared.fault.Fault.TheVariants as faults;
 ghost use Rattle.roles.specs.Composed.{Knows, Composable, MarksKnown, row_composable};
 
 use crate::fault::Fault;
@@ -13,7 +13,7 @@ use terms::term::TermRow;
 impl RoleState {
     pub(crate) fn composable(&self, view: View) -> Result<Marks, Fault>
         requires { Knows view.table.now self.now }
-        ensures { MatchResult result (λ v. Composable view.entry.table.now view.entry.party.now self.now v) (λ e. e ≡ NoMemory) }
+        ensures { MatchResult result (λ v. Composable view.entry.table.now view.entry.party.now self.now v) (λ e. e ≡ faults.Exhausted (record { seen = tt })) }
     {
         let count = view.table.len();
         let mut composable = self.known_terms(count)?;
@@ -30,7 +30,7 @@ impl RoleState {
 
     // For each of so many terms, whether it is known.
     fn known_terms(&self, count: usize) -> Result<Marks, Fault>
-        ensures { MatchResult result (λ v. MarksKnown count self.now v) (λ e. e ≡ NoMemory) }
+        ensures { MatchResult result (λ v. MarksKnown count self.now v) (λ e. e ≡ faults.Exhausted (record { seen = tt })) }
     {
         let mut known = Marks::new(*self.known.allocator(), count)?;
         for held in &self.known {

@@ -3,8 +3,8 @@ ghost use Rattle.std.specs.Prelude.{◌≡◌};
 ghost use Rattle.roles.specs.Refusals.{line_refusal, to_line};
 ghost use Rattle.roles.specs.declared.line_fault.LineFault.TheVariants as line_faults;
 
-use base::{Cause, Layer, Refusal};
-use std::alloc::{AllocError, AllocFailed};
+use crate::exhausted::Exhausted;
+use base::{Cause, Layer, NoMemory, Refusal};
 use terms::fault::TermFault;
 
 // The place is the first byte of a label, a role's name, the message, or a node within it.
@@ -19,11 +19,12 @@ pub enum LineFault {
     Repeated { at: usize },
     /// the sender cannot derive the message: its number in the order of first standing in a line, and the number of the first term that fails, by first reading
     Underivable { at: usize, role: usize, term: u16 },
-    NoMemory,
+    /// memory or the numbers of registers gave out
+    Exhausted(Exhausted),
 }
 
 impl LineFault {
-    // Want of memory is no refusal: an `Option`, and no `From`.
+    // To be exhausted is no refusal: an `Option`, and no `From`.
     pub fn refusal(&self) -> Option<Refusal>
         ensures { result ≡ line_refusal self.now }
     {
@@ -33,7 +34,7 @@ impl LineFault {
             LineFault::WrongType { at } => (Cause::WrongType, at),
             LineFault::Repeated { at } => (Cause::Repeated, at),
             LineFault::Underivable { at, .. } => (Cause::Underivable, at),
-            LineFault::NoMemory => return None,
+            LineFault::Exhausted(_) => return None,
         };
         Some(Refusal {
             cause,
@@ -51,32 +52,23 @@ impl From<TermFault> for LineFault {
             TermFault::Limit { at } => LineFault::Limit { at },
             TermFault::Undeclared { at } => LineFault::Undeclared { at },
             TermFault::WrongType { at } => LineFault::WrongType { at },
-            TermFault::NoMemory(_) => LineFault::NoMemory,
+            TermFault::NoMemory(lack) => LineFault::Exhausted(Exhausted::from(lack)),
         }
     }
 }
 
-// `?` asks for these of each type of error.
-impl<T: Drop> From<AllocFailed<T>> for LineFault {
-    ghost from_gives = { λ _ r. r ≡ line_faults.NoMemory };
+impl From<Exhausted> for LineFault {
+    ghost from_gives = { λ e r. r ≡ line_faults.Exhausted e };
 
-    fn from(_refused: AllocFailed<T>) -> LineFault {
-        LineFault::NoMemory
+    fn from(exhausted: Exhausted) -> LineFault {
+        LineFault::Exhausted(exhausted)
     }
 }
 
-impl From<AllocError> for LineFault {
-    ghost from_gives = { λ _ r. r ≡ line_faults.NoMemory };
+impl From<NoMemory> for LineFault {
+    ghost from_gives = { λ _ r. r ≡ line_faults.Exhausted (record { seen = tt }) };
 
-    fn from(_error: AllocError) -> LineFault {
-        LineFault::NoMemory
-    }
-}
-
-impl From<base::NoMemory> for LineFault {
-    ghost from_gives = { λ _ r. r ≡ line_faults.NoMemory };
-
-    fn from(_lack: base::NoMemory) -> LineFault {
-        LineFault::NoMemory
+    fn from(lack: NoMemory) -> LineFault {
+        LineFault::Exhausted(Exhausted::from(lack))
     }
 }

@@ -10,6 +10,7 @@ ghost use Rattle.roles.specs.Players.{player_of, Plays};
 ghost use Rattle.roles.specs.Roles.{Fit, Keeps};
 ghost use Rattle.roles.specs.Ended.{too_much, KeepsRest, Ends};
 
+use crate::exhausted::add_rows;
 use crate::line_fault::LineFault;
 use crate::party::Party;
 use crate::state::RoleState;
@@ -134,12 +135,7 @@ impl Role {
         if self.too_much(turn.limits) {
             return Err(LineFault::Limit { at: turn.at });
         }
-        let done = self.rows.len();
-        let added = self.state.actions.iter().skip(done);
-        self.rows.extend(added.map(|action| Row {
-            line: turn.line,
-            action: *action,
-        }))?;
+        add_rows(&mut self.rows, turn.line, &self.state.actions)?;
         Ok(())
     }
 

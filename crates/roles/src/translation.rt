@@ -8,6 +8,7 @@ ghost use Rattle.roles.specs.Staging.{stage_of, Comes, FindsRole};
 use crate::label::fresh_label;
 use crate::line_fault::LineFault;
 use crate::role::{Role, Turn};
+use base::push;
 use std::alloc::Global;
 use syntax::spec::{Line, Name, Term};
 use terms::declarations::Declarations;
@@ -79,7 +80,7 @@ impl Translation {
             return Err(LineFault::Limit { at: name.at });
         }
         let role = Role::start(input.heap, &self.declarations, number, name, input.limits)?;
-        self.roles.push(role)?;
+        push(&mut self.roles, role)?;
         Ok(place)
     }
 
