@@ -147,7 +147,7 @@ module _ (A : ℕ → ℕ) where
   message_counted (x ∷ xs) (suc k) h = message_counted xs k h.1
 
   module _ (S : Specification) (kept : CountsKept A S) where
-    any_message : (l : ℕ) → Declared A (message S l)
+    pub any_message : (l : ℕ) → Declared A (message S l)
     any_message zero = (tt, tt)
     any_message (suc k) = message_counted S.lines k kept.lines
 

@@ -5,6 +5,7 @@ pub mod Counting
 pub mod Emptying
 pub mod Holding
 pub mod Inputs
+pub mod LineFaults
 pub mod LineValues
 pub mod Lines
 pub mod Moving

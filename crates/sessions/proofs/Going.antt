@@ -1,9 +1,11 @@
 -- Requests one after the other.
-use Rattle.std.proofs.Common.{◌≡◌, ℕ, ◌+◌, ◌<◌, List, [], ◌∷◌, ◌++◌, length, map, take, get_or, sym, refl, ap, ◌∙◌, subst, append-nil, append_assoc}
+use Rattle.std.proofs.Common.{◌≡◌, ℕ, ◌+◌, ◌<◌, List, [], ◌∷◌, ◌++◌, length, map, take, get_or, Some, sym, refl, ap, ◌∙◌, subst, append-nil, append_assoc}
 use Rattle.std.proofs.lemmas.List.{take_more}
 use mathlib.Core.Path.{subst⁻¹}
 use Rattle.store.specs.Semantics.{Semantics}
 use Rattle.run.specs.declared.run.Run.{Run}
+use Rattle.model.specs.Trees.{Tree}
+use Rattle.model.specs.Storable.{Storable}
 use Rattle.run.specs.Shown.{Small}
 use Rattle.sessions.specs.declared.reply.Reply.{Reply}
 use Rattle.sessions.specs.declared.request.Request.{Request}
@@ -65,13 +67,13 @@ module _ {S : Type 0} (M : Semantics S) where
       (subst (λ p. Does M s s' runs runs' rs p r) is (subst (λ zs. Does M s s' runs runs' zs q r) same o)) h))
 
   -- what was performed is lawful
-  pub all_performed : (small : (s : S) → Small (M.means s)) (first s : S) (fresh runs : List Run) (qs : List Request) (rs : List Reply) → Halfway first s fresh runs qs rs
+  pub all_performed : (small : (s : S) → Small (M.means s)) → ((s : S) (h : ℕ) (v : Tree) → M.means s h ≡ Some v → Storable v) → (first s : S) (fresh runs : List Run) (qs : List Request) (rs : List Reply) → Halfway first s fresh runs qs rs
       → Performed M first s fresh runs qs rs
-  all_performed small first s fresh runs qs rs h = record {
+  all_performed small holds first s fresh runs qs rs h = record {
     history = h.history;
     asked = h.asked;
     replied = h.replied;
     named = h.named;
     happened = h.happened;
-    lawful = λ X old new past b k es rest e. lawful_points M (M.cost old) small X b.accepted old new refl b past first fresh k h.history s runs h.happened es rest e;
+    lawful = λ X old new past b k es rest e. lawful_points M (M.cost old) small X b.accepted holds old new refl b past first fresh k h.history s runs h.happened es rest e;
   }

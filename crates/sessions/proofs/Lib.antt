@@ -1,5 +1,7 @@
 pub mod Standing
 pub mod There
+pub mod Refusals
+pub mod Numbers
 pub mod Events
 pub mod Places
 pub mod Advancing

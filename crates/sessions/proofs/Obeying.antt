@@ -37,7 +37,8 @@ use Rattle.sessions.specs.Replies.{reply_of}
 use Rattle.sessions.proofs.Events.{Replies, Took, Told as SaidSo, Untouched}
 use Rattle.sessions.specs.Requests.{handle_of}
 use Rattle.sessions.proofs.Events.{event_of}
-use Rattle.sessions.specs.RunLaw.{Refused, InTurn, RightCounts, Decided}
+use Rattle.sessions.specs.RunLaw.{InTurn, RightCounts}
+use Rattle.sessions.proofs.Numbers.{Refused, DecidedBy}
 use Rattle.sessions.proofs.Naming.{given_once, makes_are}
 use Rattle.sessions.proofs.Places.{Place, place, drop_more, turn_for, turn_same}
 use Rattle.sessions.proofs.Replying.{Tells, took_tells, told_tells}
@@ -315,7 +316,7 @@ module _ {S : Type 0} (M : Semantics S) (cost : Tree → ℕ) (small : (s : S) �
           go true i y = ltb-true r X.roles i
           go false i y = elim (subst (λ w. T (is_taken w)) y.1 t) [ ]
 
-      pub decided : Decided M X H e
+      pub decided : DecidedBy M X H e
       decided = record {
         hear_taken = λ r l h v k q m f.
             let z = hear_at r l h v k q m in

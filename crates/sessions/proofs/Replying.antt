@@ -12,7 +12,7 @@ use Rattle.sessions.specs.declared.reply.Reply.TheVariants as replies
 use Rattle.sessions.specs.Observed.{taken as is_taken}
 use Rattle.sessions.specs.Replies.{reply_of}
 use Rattle.sessions.proofs.Events.{Took, Told}
-use Rattle.sessions.specs.RunLaw.{Refused}
+use Rattle.sessions.proofs.Numbers.{Refused}
 
 -- it is taken, or refused with a number, as the model answers
 pub record Tells (a : Answer) (r : Reply) : Type 0 where

@@ -1,22 +1,31 @@
 -- The law of runs, from the law of the model's sessions.
-use Rattle.std.proofs.Common.{◌≡◌, ℕ, ◌<◌, ◌≤◌, Bool, true, false, cond, ◌&&◌, T, eqb, ltb, List, [], ◌∷◌, ◌++◌, map, length, get_or, Some, Ok, Err, Result, Vec, sym, refl, ap, ◌∙◌, subst, arith, vec_items, append-nil, append_assoc}
+use Rattle.std.proofs.Common.{◌≡◌, ℕ, ◌<◌, ◌≤◌, Bool, true, false, cond, ◌&&◌, T, eqb, ltb, List, [], ◌∷◌, ◌++◌, map, length, get_or, Some, Ok, Err, Result, Vec, sym, refl, ap, ◌∙◌, subst, inl, inr, ◌⊎◌, arith, vec_items, append-nil, append_assoc}
+use Rattle.std.proofs.Common as std
+use lib.Dec.{eqb_refl}
 use Rattle.std.specs.declared.alloc.Global.{Global}
 use Rattle.std.proofs.lemmas.Bool.{ltb-true}
 use mathlib.Core.Option.{Option, none as nothing, some}
 use mathlib.Core.Path.{subst⁻¹}
-use Rattle.model.specs.Lists.{Every, SomeOf}
+use Rattle.model.specs.Lists.{Every, SomeOf, zip}
 use Rattle.model.specs.Trees.{tupled, crypted, applied, Tree, leaf}
+use Rattle.model.specs.Storable.{Storable}
+use Rattle.model.specs.CountLaw.{Declared, CountsKept}
 use Rattle.model.specs.Deducible.{Deducible}
 use Rattle.model.specs.Roles.{Entry}
 use Rattle.model.specs.Entries.{Has, Held}
 use Rattle.model.specs.Readings.{reading_of}
-use Rattle.model.specs.Holdings.{TermOf, ValueOf}
-use Rattle.model.specs.Specifications.{Specification, begin as to_do, speak, listen}
+use Rattle.model.specs.Holdings.{Stock, nothing_held, add, TermOf, ValueOf}
+use Rattle.model.specs.Specifications.{Specification, message, Duty, begin as to_do, speak, listen}
 use Rattle.model.specs.Programs.{Accepted}
 use Rattle.model.specs.Sessions as sessions
 use Rattle.model.specs.Sessions.{State, Event, begin, say, hear, build, other, call, begins_next, next_turn}
 use Rattle.model.specs.SessionLaw as model
-use Rattle.model.proofs.Lists.{every_some}
+use Rattle.model.proofs.Lists.{every_some, every_map, every_join}
+use Rattle.model.proofs.After.{Holds}
+use Rattle.model.proofs.Counting.{TermCounted}
+use Rattle.model.proofs.CountLaw.{any_message}
+use Rattle.model.proofs.Deducible.{as_specified}
+use Rattle.model.proofs.Lines.{sheet_has}
 use Rattle.model.proofs.SessionLaw.{session_law}
 use Rattle.model.proofs.Standing.{term_known}
 use Rattle.model.proofs.Grounds.{held_every}
@@ -31,15 +40,56 @@ use Rattle.sessions.specs.declared.request.Request.{Request}
 use Rattle.sessions.specs.declared.request.Request.TheVariants.{Begin, Say, Hear, Register, Atom, Tuple, Crypt, Apply, Shape, Part, Unlock, Same, Space}
 use Rattle.sessions.specs.Starting.{Begins}
 use Rattle.sessions.specs.Happening.{store_at, runs_at, Did, Happened}
-use Rattle.sessions.specs.Observed.{Step, taken as is_taken, taken_by, values_at, values_in, stock}
+use Rattle.sessions.specs.Observed.{Step, calls, taken as is_taken, taken_by, values_at, values_in, is_one_of, each_once, stock, next_duty}
 use Rattle.sessions.specs.Replies.{Made, reply_by}
 use Rattle.sessions.proofs.Events.{Replies}
+use Rattle.run.specs.declared.fault.RunFault.TheVariants.{OutOfTurn, Counts}
+use Rattle.sessions.specs.Refusals.{FullFault, MismatchFault}
 use Rattle.sessions.specs.Requests.{handle_of, handles_of}
+use Rattle.sessions.proofs.Numbers.{Refused, DecidedBy}
+use Rattle.sessions.proofs.Refusals.{turn_named, invalid_named, mismatch_named, full_named, counts_named, Ended, ended}
 use Rattle.sessions.proofs.Events.{of_maker, event_of}
 use Rattle.sessions.specs.RunLaw.{Along, Derived, Holding, Decided, StartsFrom, AsSaid, Unbuilt, to_build, to_start, Suffices, NotRefused, InTurn, AllRead, AllShare, Lawful}
 use Rattle.sessions.proofs.Naming.{given_once}
 use Rattle.sessions.proofs.Observing.{At, event, replied, at_start, at_next}
 use Rattle.sessions.proofs.Obeying.{begins_same, all_names, stock_same, turn_of_duty, begin_of_turn, hear_of_turn, begin_is, say_is, hear_is, decided, is_role}
+
+-- one of some runs
+one_of : (runs : List Run) (r : ℕ) → r < length runs → Run
+one_of [] r l = absurd (omega arith)
+one_of (run ∷ runs) r l = run
+
+every_zip : {A B : Type 0} (Q : A → Type 0) (W : B → Type 0) (xs : List A) (ys : List B) → Every Q xs → Every W ys → Every (λ p. Q p.0 × W p.1) (zip xs ys)
+every_zip Q W [] ys h k = tt
+every_zip Q W (x ∷ xs) [] h k = tt
+every_zip Q W (x ∷ xs) (y ∷ ys) h k = ((h.0, k.0), every_zip Q W xs ys h.1 k.1)
+
+each_once_every : (Q : Tree → Type 0) (before ts : List Tree) → Every Q before → Every Q ts → Every Q (each_once before ts)
+each_once_every Q before [] h k = h
+each_once_every Q before (t ∷ ts) h k = go (is_one_of t before) (λ us g. each_once_every Q us ts g k.1)
+  where
+    go : (b : Bool) → ((us : List Tree) → Every Q us → Every Q (each_once us ts)) → Every Q (each_once (cond b before (before ++ (t ∷ []))) ts)
+    go true f = f before h
+    go false f = f (before ++ (t ∷ [])) (every_join Q before (t ∷ []) h (k.0, tt))
+
+-- the values behind valid handles
+valued : (m : Meaning) → ((h : ℕ) (v : Tree) → m h ≡ Some v → Storable v) → (hs : List ℕ) (vs : List Tree) → map (λ h. as_option (m h)) hs ≡ map some vs → Every Storable vs
+valued m f hs [] e = tt
+valued m f [] (v ∷ vs) e = absurd (cc)
+valued m f (h ∷ hs) (v ∷ vs) e = (f h v (behind (m h) v (head_same e)), valued m f hs vs (tail_same e))
+  where
+    head_same : {A : Type 0} {x y : A} {xs ys : List A} → x ∷ xs ≡ y ∷ ys → x ≡ y
+    head_same e = cc
+
+    tail_same : {A : Type 0} {x y : A} {xs ys : List A} → x ∷ xs ≡ y ∷ ys → xs ≡ ys
+    tail_same e = cc
+
+    behind : (o : std.Option Tree) (v : Tree) → as_option o ≡ some v → o ≡ Some v
+    behind std.None v e = absurd (cc)
+    behind (Some w) v e = ap Some (inj e)
+      where
+        inj : {w v : Tree} → some w ≡ some v → w ≡ v
+        inj e = cc
 
 module _ {S : Type 0} (M : Semantics S) (cost : Tree → ℕ) (small : (s : S) → Small (M.means s)) (X : Specification) (acc : Accepted X) where
   abbrev Now : List (Step S) → S → List Run → State → Type 0
@@ -127,6 +177,77 @@ module _ {S : Type 0} (M : Semantics S) (cost : Tree → ℕ) (small : (s : S) �
           let w = v.stands.filled i t e in
           (w.0, in_register r i run w.0 l w.1);
     }
+
+    -- what a role holds is of declared terms, with values that a store can hold
+    module _ (holds : (s : S) (h : ℕ) (v : Tree) → M.means s h ≡ Some v → Storable v) where
+      abbrev Fits : (ℕ → ℕ) → Tree × Tree → Type 0
+      Fits A p = Declared A p.0 × Storable p.1
+
+      fits : (A : ℕ → ℕ) → CountsKept A X → (r : ℕ) → r < length runs → (t v : Tree) → Holds (a.attend r).sheet (st.views r).memory t v → Declared A t × Storable v
+      fits A kept r l t v h = (
+        every_some (TermCounted A) (λ (e : Entry). t ≡ e.term) (Declared A t) (λ e c q. subst⁻¹ (Declared A) q c) (a.attend r).role.known ((a.attend r).counts A kept).0.terms
+            (sheet_has (a.attend r).role (a.attend r).sheet (a.attend r).stands.good h.0 t h.1),
+        holds s (register (get_or runs r (one_of runs r l)).registers h.0) v (in_register r h.0 (one_of runs r l) v l h.2),
+      )
+
+      stock_fits : (A : ℕ → ℕ) → CountsKept A X → (r : ℕ) → r < length runs → Every (Fits A) (stock M.means X r H).taken × Every (λ p. p.1 < 4294967296) (stock M.means X r H).made
+      stock_fits A kept r l =
+          subst (λ (z : Stock). Every (Fits A) z.taken × Every (λ p. p.1 < 4294967296) z.made) (stock_same M cost small X acc H s runs st a r) (
+            every_map (λ p. Holds (a.attend r).sheet (st.views r).memory p.0 p.1) (Fits A) (λ p h. fits A kept r l p.0 p.1 h) (st.views r).holdings.taken (a.attend r).stands.holds,
+            every_map (λ p. Holds (a.attend r).sheet (st.views r).memory (leaf p.0) (leaf p.1)) (λ p. p.1 < 4294967296) (λ p h. (fits A kept r l (leaf p.0) (leaf p.1) h).1) (st.views r).holdings.made (a.attend r).stands.names,
+          )
+
+      -- what was decided, by the faults themselves and by values that a store can hold
+      module _ (e : Step S) (d : Did M s runs e) (b : DecidedBy M X H e) where
+        role_there : (r : ℕ) (w : Duty) → next_duty X r H ≡ some w → r < length runs
+        role_there r w q = subst⁻¹ (λ n. r < n) a.many (is_role X r (taken_by r H) w q)
+
+        ending : (r : ℕ) → T (calls r e.asked) → Ended M e
+        ending r t = ended M e r e.asked t d.does
+
+        fault_of_two : Refused 14 e.reply ⊎ Refused 15 e.reply → MismatchFault e.reply ⊎ FullFault e.reply
+        fault_of_two (inl x) = inl (mismatch_named e.reply x)
+        fault_of_two (inr x) = inr (full_named e.reply x)
+
+        hear_fits : (A : ℕ → ℕ) → CountsKept A X → (r l : ℕ) (h : Handle) (v : Tree) → next_duty X r H ≡ some (listen l) → M.means e.before (handle_of e.earlier h) ≡ Some v
+            → Every (Fits A) (add (stock M.means X r H) (message X l ∷ []) (v ∷ []) [] []).taken
+        hear_fits A kept r l h v q m =
+            every_join (Fits A) (stock M.means X r H).taken ((message X l, v) ∷ []) (stock_fits A kept r (role_there r (listen l) q)).0
+            ((any_message A X kept l, holds e.before (handle_of e.earlier h) v m), tt)
+
+        begin_fits : (A : ℕ → ℕ) → CountsKept A X → (r : ℕ) (given : Vec Handle Global) (numbers : Vec ℕ Global) (vs : List Tree) → e.asked ≡ Begin r given numbers
+            → next_duty X r H ≡ some (to_do (X.knows r)) → values_in M.means e ≡ map some vs → Every (Fits A) (zip (each_once [] (X.knows r)) vs)
+        begin_fits A kept r given numbers vs k q m =
+            every_zip (Declared A) Storable (each_once [] (X.knows r)) vs
+            (each_once_every (Declared A) [] (X.knows r) tt (kept.starts r (is_role X r (taken_by r H) (to_do (X.knows r)) q)))
+            (valued (M.means e.before) (holds e.before) (handles_of e.earlier (vec_items given)) vs (sym (ap (values_at (M.means e.before) e.earlier) k) ∙ m))
+
+        named : Decided M X H e
+        named = record {
+          hear_taken = λ A kept r l h v k q m f.
+              let i = b.hear_taken r l h v k q m (λ x. f (full_named e.reply x)) in
+              let w = as_specified A (X.party r) (add (stock M.means X r H) (message X l ∷ []) (v ∷ []) [] []) (hear_fits A kept r l h v q m)
+              (every_join (λ p. p.1 < 4294967296) (stock M.means X r H).made [] (stock_fits A kept r (role_there r (listen l) q)).1 tt) in
+              ((λ t. w.0 (i.0 t)), λ y. i.1 (w.1 y));
+          hear_refused = λ r l h v k q m f. fault_of_two (b.hear_refused r l h v k q m f);
+          begin_taken = λ A kept r given numbers vs k q m c f.
+              let i = b.begin_taken r given numbers vs k q m c (λ x. f (full_named e.reply x)) in
+              let w = as_specified A (X.party r) (add nothing_held (each_once [] (X.knows r)) vs [] []) (begin_fits A kept r given numbers vs k q m) tt in
+              ((λ t. w.0 (i.0 t)), λ y. i.1 (w.1 y));
+          begin_refused = λ r given numbers vs k q m c f. fault_of_two (b.begin_refused r given numbers vs k q m c f);
+          say_refused = λ r l mk k q f. full_named e.reply (b.say_refused r l mk k q f);
+          say_answers = b.say_answers;
+          out_of_turn = λ r t l. let i = b.out_of_turn r t l in ((λ x. i.0 (subst⁻¹ (Refused 11) x.1 refl)), λ n. turn_named e.reply (i.1 n));
+          wrong_counts = λ r given numbers k q.
+              let i = b.wrong_counts r given numbers k q in (
+                (λ x. i.0 (subst⁻¹ (Refused 13) x.1 refl)),
+                λ n. counts_named e.reply (ending r (subst⁻¹ (λ z. T (calls r z)) k (eqb_refl r))).possible (i.1 n),
+              );
+          hear_invalid = λ r l h k q m. invalid_named e.reply (b.hear_invalid r l h k q m);
+          begin_invalid = λ r given numbers vs hs k q m c. invalid_named e.reply (b.begin_invalid r given numbers vs hs k q m c);
+          unaltered = λ r t x. elim x [ inl y ↦ (ending r t).unaltered (OutOfTurn y.0) y.1 tt | inr y ↦ (ending r t).unaltered (Counts y.0) y.1 tt ];
+          emptied = λ r t n q run l. (ending r t).emptied n q run l;
+        }
 
     all_read : (R : Tree → Tree) → model.AllRead R st → AllRead M X R H s runs
     all_read R f r i run t l h =
@@ -324,7 +445,7 @@ module _ {S : Type 0} (M : Semantics S) (cost : Tree → ℕ) (small : (s : S) �
       go false w k = k w
 
   -- the law, where steps from new runs have led
-  module _ (first : S) (new : List Run) (p : M.cost first ≡ cost) (b : Begins X new) where
+  module _ (holds : (s : S) (h : ℕ) (v : Tree) → M.means s h ≡ Some v → Storable v) (first : S) (new : List Run) (p : M.cost first ≡ cost) (b : Begins X new) where
     begun : Now [] first new (sessions.new_runs X (M.space first))
     begun = at_start M cost small X acc first new p b
 
@@ -332,7 +453,7 @@ module _ {S : Type 0} (M : Semantics S) (cost : Tree → ℕ) (small : (s : S) �
     lawful_end H s runs h = record {
       derived = derived H s runs st end;
       holding = holding H s runs st end;
-      decided = along (Decided M X) (λ H s runs st a e d. decided M cost small X acc H s runs st a e d) H [] first new (sessions.new_runs X (M.space first)) s runs begun h;
+      decided = along (Decided M X) (λ H s runs st a e d. named H s runs st a holds e d (decided M cost small X acc H s runs st a e d)) H [] first new (sessions.new_runs X (M.space first)) s runs begun h;
       chosen = λ ρ f.
           let fair : model.Fair X cost ρ (sessions.new_runs X (M.space first)) (events H) = record {
             start = along_to (StartsFrom M X ρ) (model.StartsFrom X ρ) (λ H s runs st a e d w. start_to H s runs st a e d ρ w) H [] first new (sessions.new_runs X (M.space first)) s runs begun h f.start;
@@ -364,10 +485,10 @@ module _ {S : Type 0} (M : Semantics S) (cost : Tree → ℕ) (small : (s : S) �
   happened_join (e ∷ es) rest s runs t ts s' runs' h k = (h.0, happened_join es rest e.after e.runs_after t ts s' runs' h.1 k)
 
   -- at every point of steps that went on from others
-  pub lawful_points : (first : S) (new : List Run) → M.cost first ≡ cost → Begins X new → (past : List (Step S)) (old : S) (runs : List Run)
+  pub lawful_points : (holds : (s : S) (h : ℕ) (v : Tree) → M.means s h ≡ Some v → Storable v) (first : S) (new : List Run) → M.cost first ≡ cost → Begins X new → (past : List (Step S)) (old : S) (runs : List Run)
       → Happened M first new past old runs → (H : List (Step S)) (s : S) (runs' : List Run) → Happened M old runs H s runs'
       → (es rest : List (Step S)) → H ≡ es ++ rest → Lawful M X (past ++ es) (store_at old es) (runs_at runs es)
-  lawful_points first new p b past old runs k H s runs' h es rest e =
-      lawful_end first new p b (past ++ es) (store_at old es) (runs_at runs es)
+  lawful_points holds first new p b past old runs k H s runs' h es rest e =
+      lawful_end holds first new p b (past ++ es) (store_at old es) (runs_at runs es)
       (happened_join past es first new old runs (store_at old es) (runs_at runs es) k
       (happened_part es rest old runs s runs' (subst (λ l. Happened M old runs l s runs') e h)))

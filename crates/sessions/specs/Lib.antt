@@ -1,6 +1,7 @@
 pub mod Plays
 pub mod PlainLaw
 pub mod Requests
+pub mod Refusals
 pub mod Replies
 pub mod Performing
 pub mod Faults

@@ -8,35 +8,22 @@ use Rattle.model.specs.Deduction.{Party}
 use Rattle.model.specs.Entries.{Has, Held}
 use Rattle.model.specs.Roles.{Entry, Role}
 use Rattle.model.specs.Readings.{reading_of}
-use Rattle.model.specs.Holdings.{nothing_held, add, TermOf, ValueOf, Readable}
+use Rattle.model.specs.Holdings.{nothing_held, add, TermOf, ValueOf}
 use Rattle.model.specs.Specifications.{Specification, message, Duty, begin, speak, listen, duties}
 use Rattle.model.specs.Programs.{nobody_yet, next_role}
 use Rattle.model.specs.CountLaw.{CountsKept}
-use Rattle.model.specs.Deducible.{Deducible}
+use Rattle.model.specs.Deducible.{Deducible, ReadAsSpecified}
 use Rattle.model.specs.SessionLaw.{costs}
 use Rattle.store.specs.Semantics.{Semantics}
 use Rattle.run.specs.declared.run.Run.{Run}
-use Rattle.run.specs.Faults.{run_fault_number}
 use Rattle.run.specs.Shown.{register}
-use Rattle.sessions.specs.declared.reply.Reply.{Reply}
 use Rattle.sessions.specs.declared.reply.Reply.TheVariants as replies
 use Rattle.sessions.specs.declared.request.Handle.{Handle}
 use Rattle.sessions.specs.declared.request.Request.{Request}
 use Rattle.sessions.specs.declared.request.Request.TheVariants.{Begin, Say, Hear, Register, Atom, Tuple, Crypt, Apply, Shape, Part, Unlock, Same, Space}
+use Rattle.sessions.specs.Refusals.{OutOfTurnFault, CountsFault, InvalidFault, FullFault, MismatchFault}
 use Rattle.sessions.specs.Requests.{handle_of}
 use Rattle.sessions.specs.Observed.{Step, calls, taken, taken_by, values_in, each_once, names_of_all, stock, lines_said, next_duty}
-
--- a call is refused with this number
-abbrev pub Refused : ℕ → Reply → Type 0
-Refused n replies.Done = ⊥
-Refused n (replies.Handle h) = ⊥
-Refused n replies.Empty = ⊥
-Refused n (replies.Shape s) = ⊥
-Refused n (replies.Same b) = ⊥
-Refused n (replies.Space m) = ⊥
-Refused n (replies.Run f) = run_fault_number f ≡ n
-Refused n (replies.Store f) = ⊥
-Refused n replies.NoRole = ⊥
 
 -- a value that is built by somebody else
 abbrev pub to_build : Request → Bool
@@ -102,31 +89,35 @@ module _ {S : Type 0} (M : Semantics S) (X : Specification) where
     pub filled : (r i : ℕ) (run : Run) (t : Tree) → r < length runs → Held (known_after X r (length (taken_by r H))) t i
         → (v : Tree) × (M.means s (register (slice_index_or runs r run).registers i) ≡ Some v)
 
-  -- A value heard in turn, unless the store refuses one of its builds, is taken exactly if some choice for names and closed terms gives all
-  -- the role's holdings, this one too, their values; and so are the values given at a begin in turn with right counts.
+  -- A value heard in turn, unless the store refuses one of its builds, is taken exactly if some choice of values that a store can hold, for names
+  -- and closed terms, gives all the role's holdings, this one too, their values; and so are the values given at a begin in turn with right counts.
   pub record Decided (H : List (Step S)) (e : Step S) : Type 0 where
-    pub hear_taken : (r l : ℕ) (h : Handle) (v : Tree) → e.asked ≡ Hear r h → next_duty X r H ≡ some (listen l)
-        → M.means e.before (handle_of e.earlier h) ≡ Some v → ¬ Refused 15 e.reply
-        → T (taken e.reply) ↔ Readable (X.party r) (add (stock M.means X r H) (message X l ∷ []) (v ∷ []) [] [])
+    pub hear_taken : (declared : ℕ → ℕ) → CountsKept declared X → (r l : ℕ) (h : Handle) (v : Tree) → e.asked ≡ Hear r h → next_duty X r H ≡ some (listen l)
+        → M.means e.before (handle_of e.earlier h) ≡ Some v → ¬ FullFault e.reply
+        → T (taken e.reply) ↔ ReadAsSpecified declared (X.party r) (add (stock M.means X r H) (message X l ∷ []) (v ∷ []) [] [])
     pub hear_refused : (r l : ℕ) (h : Handle) (v : Tree) → e.asked ≡ Hear r h → next_duty X r H ≡ some (listen l)
-        → M.means e.before (handle_of e.earlier h) ≡ Some v → ¬ T (taken e.reply) → Refused 14 e.reply ⊎ Refused 15 e.reply
-    pub begin_taken : (r : ℕ) (given : Vec Handle Global) (numbers : Vec ℕ Global) (vs : List Tree) → e.asked ≡ Begin r given numbers
-        → next_duty X r H ≡ some (begin (X.knows r)) → values_in M.means e ≡ map some vs → RightCounts X r (values_in M.means e) (vec_items numbers) → ¬ Refused 15 e.reply
-        → T (taken e.reply) ↔ Readable (X.party r) (add nothing_held (each_once [] (X.knows r)) vs [] [])
+        → M.means e.before (handle_of e.earlier h) ≡ Some v → ¬ T (taken e.reply) → MismatchFault e.reply ⊎ FullFault e.reply
+    pub begin_taken : (declared : ℕ → ℕ) → CountsKept declared X → (r : ℕ) (given : Vec Handle Global) (numbers : Vec ℕ Global) (vs : List Tree) → e.asked ≡ Begin r given numbers
+        → next_duty X r H ≡ some (begin (X.knows r)) → values_in M.means e ≡ map some vs → RightCounts X r (values_in M.means e) (vec_items numbers) → ¬ FullFault e.reply
+        → T (taken e.reply) ↔ ReadAsSpecified declared (X.party r) (add nothing_held (each_once [] (X.knows r)) vs [] [])
     pub begin_refused : (r : ℕ) (given : Vec Handle Global) (numbers : Vec ℕ Global) (vs : List Tree) → e.asked ≡ Begin r given numbers
         → next_duty X r H ≡ some (begin (X.knows r)) → values_in M.means e ≡ map some vs → RightCounts X r (values_in M.means e) (vec_items numbers) → ¬ T (taken e.reply)
-        → Refused 14 e.reply ⊎ Refused 15 e.reply
-    pub say_refused : (r l : ℕ) (mk : ℕ → Bool) → e.asked ≡ Say r → next_duty X r H ≡ some (speak l mk) → ¬ T (taken e.reply) → Refused 15 e.reply
+        → MismatchFault e.reply ⊎ FullFault e.reply
+    pub say_refused : (r l : ℕ) (mk : ℕ → Bool) → e.asked ≡ Say r → next_duty X r H ≡ some (speak l mk) → ¬ T (taken e.reply) → FullFault e.reply
     -- a say that is taken answers a valid handle
     pub say_answers : (r : ℕ) → e.asked ≡ Say r → T (taken e.reply) → (h : ℕ) × (v : Tree) × (e.reply ≡ replies.Handle h) × (M.means e.after h ≡ Some v)
     -- refused for other reasons: a call of a role that is out of turn, a begin with wrong counts, a handle that is not valid
-    pub out_of_turn : (r : ℕ) → T (calls r e.asked) → r < X.roles → Refused 11 e.reply ↔ (¬ InTurn H e.asked)
+    pub out_of_turn : (r : ℕ) → T (calls r e.asked) → r < X.roles → OutOfTurnFault e.reply ↔ (¬ InTurn H e.asked)
     pub wrong_counts : (r : ℕ) (given : Vec Handle Global) (numbers : Vec ℕ Global) → e.asked ≡ Begin r given numbers → next_duty X r H ≡ some (begin (X.knows r))
-        → Refused 13 e.reply ↔ (¬ RightCounts X r (values_in M.means e) (vec_items numbers))
-    pub hear_invalid : (r l : ℕ) (h : Handle) → e.asked ≡ Hear r h → next_duty X r H ≡ some (listen l) → M.means e.before (handle_of e.earlier h) ≡ None → Refused 12 e.reply
+        → CountsFault e.reply ↔ (¬ RightCounts X r (values_in M.means e) (vec_items numbers))
+    pub hear_invalid : (r l : ℕ) (h : Handle) → e.asked ≡ Hear r h → next_duty X r H ≡ some (listen l) → M.means e.before (handle_of e.earlier h) ≡ None → InvalidFault e.reply
     pub begin_invalid : (r : ℕ) (given : Vec Handle Global) (numbers : Vec ℕ Global) (vs : List Tree) (hs : List (Option Tree)) → e.asked ≡ Begin r given numbers
         → next_duty X r H ≡ some (begin (X.knows r)) → values_in M.means e ≡ map some vs ++ (nothing ∷ hs) → RightCounts X r (values_in M.means e) (vec_items numbers)
-        → Refused 12 e.reply
+        → InvalidFault e.reply
+    -- out of turn or with wrong counts a call alters neither the store nor a run; refused for another reason it leaves every register as it was
+    pub unaltered : (r : ℕ) → T (calls r e.asked) → OutOfTurnFault e.reply ⊎ CountsFault e.reply → (e.after ≡ e.before) × (e.runs_after ≡ e.runs_before)
+    pub emptied : (r : ℕ) → T (calls r e.asked) → ¬ T (taken e.reply) → (q : ℕ) (run : Run) → q < length e.runs_before
+        → (slice_index_or e.runs_after q run).registers ≡ (slice_index_or e.runs_before q run).registers
 
   -- a begin in turn has the readings of the start's terms as givens, and the numbers of the atoms chosen for the names that the role makes
   abbrev pub StartsFrom : (ℕ → Tree) → List (Step S) → Step S → Type 0

@@ -30,6 +30,6 @@ pub returns : goal.returns
 returns g c =
     let m = g.S.Store.semantics.means in
     let h = c.loop-request-test.false in
-    all_performed g.S.Store.semantics g.met.S.Store.each_fits c.args.store.now c.loop-request.store c.args.runs.now c.loop-request.runs c.args.requests.now c.loop-request.replies.items
+    all_performed g.S.Store.semantics g.met.S.Store.each_fits g.met.S.Store.each_holds c.args.store.now c.loop-request.store c.args.runs.now c.loop-request.runs c.args.requests.now c.loop-request.replies.items
     (subst (λ qs. Halfway g.S.Store.semantics c.args.store.now c.loop-request.store c.args.runs.now c.loop-request.runs qs c.loop-request.replies.items)
     (take_all c.loop-request.request-index c.args.requests.now (omega arith)) c.loop-request.invariant.halfway)
