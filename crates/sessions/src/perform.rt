@@ -1,5 +1,5 @@
 // The public calls: a session of a text's roles over a store, and requests on runs that are lent.
-ghost use Rattle.std.specs.Prelude.{◌≡◌, ◌<◌, ◌≤◌, ℕ, length, slice_index_or};
+ghost use Rattle.std.specs.Prelude.{◌<◌, ◌≤◌, ℕ, length, slice_index_or};
 ghost use Rattle.sessions.specs.declared.request.Request.{Request as Asked};
 ghost use Rattle.sessions.specs.Performing.{Performs, PerformsOn};
 ghost use Rattle.sessions.specs.Requests.{width};
