@@ -22,10 +22,6 @@ pub gives_path : {A B : Type 0} {o o' : Shaped A} (view : B → A) (r : Result B
 gives_path view (Ok x) p h = p ∙ h
 gives_path view (Err e) p h = λ n. p ∙ h n
 
-pub gives_view : {A B : Type 0} {view view' : B → A} (o : Shaped A) (r : Result B ShapeFault) → ((x : B) → view x ≡ view' x) → Gives view o r → Gives view' o r
-gives_view o (Ok x) p h = h ∙ ap Ok (p x)
-gives_view o (Err e) p h = h
-
 pub stands_misfit : (text : List ℕ) (t : Tree) (b : Opening) → Stands text t b → misfit text t ≡ Misfit b.at
 stands_misfit text t b h = ap (misfit text) h.is ∙ ap (λ c. cond c (NotCarried b.at) (Misfit b.at)) h.carried
 

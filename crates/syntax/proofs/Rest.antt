@@ -42,9 +42,6 @@ module _ {T A L : Type 0} (one : Tree → Shaped A) (all : Trees → Shaped L) (
       pub rest_none : length nodes ≤ i → all (trees_of nodes) ≡ Ok (views xs)
       rest_none h = r.ok [] (at_drop_all (λ ns. all (trees_of ns)) nodes i h ∙ b.nothing) ∙ ap (λ ys. Ok (views ys)) (append-nil xs)
 
-    pub rest_start : Rest 0 []
-    rest_start = record { ok = λ ys p. p; err = λ f p. p }
-
 pub by_term : (text : List ℕ) → ByOne (term text) (terms text) term_of terms_of
 unfolding terms
 by_term text = record { join = and_term; nothing = refl; further = λ t ts. refl; joined = λ x xs. refl }

@@ -1,5 +1,5 @@
 -- Declarations, step by step.
-use Rattle.std.proofs.Common.{◌≡◌, ℕ, min, List, [], ◌∷◌, ◌++◌, map, Some, None, Ok, Err, vec_items, Option, Result, ap, ◌∙◌, sym}
+use Rattle.std.proofs.Common.{◌≡◌, ℕ, min, List, [], ◌∷◌, ◌++◌, map, Some, None, Ok, vec_items, Option, Result, ap, ◌∙◌, sym}
 use mathlib.Core.Path.{subst⁻¹}
 use Rattle.syntax.specs.Specs.{Term}
 use Rattle.terms.specs.declared.declarations.Declarations.{Declarations}
@@ -15,7 +15,7 @@ use Rattle.terms.specs.Refusals.{to_declaration}
 use Rattle.terms.specs.Declaring.{bind, in_declaration, with_term, right_of, known, with_right, with_start}
 use Rattle.terms.specs.Meanings.{given_in, signature_of, trees_of, scope_of}
 use Rattle.terms.specs.Termed.{Refused, Termed}
-use Rattle.terms.specs.Declares.{Unfit, Knowing}
+use Rattle.terms.specs.Declares.{Unfit}
 use Rattle.terms.proofs.ListedTrees.{listed_at}
 use Rattle.terms.proofs.Pushing.{scope_start}
 use Rattle.terms.proofs.Scopes.{taken}
@@ -54,7 +54,3 @@ module _ (text : List ℕ) (limits : Limits) (d : Declarations) (who : Option �
         let x = taken text (min limits.terms 512) t (scope_of d) (scope_of d₁) w.0 in
         ap known_by (sym r) ∙ ap (λ z. bind (in_declaration z) (λ U. Ok (with_start text limits who t U))) w.0
         ∙ ap Ok (sym (scope_start text limits d₁ who k t starts s ((listed_at d₁.terms k (tree text (vec_items d.names) t) w.1).1 ∙ ap (λ ns. tree text ns t) (sym x.names))))
-
-    -- a term that is refused
-    pub knows_refused : (d' : Declarations) (f : TermFault) → Refused text (min limits.terms 512) t (scope_of d) f → Knowing text limits d d' who t (Err (to_declaration f))
-    knows_refused d' f e = unfit_as _ _ (to_declaration f) (ap known_by (sym r)) (unfit_term text (min limits.terms 512) t (scope_of d) (λ U. Ok (with_start text limits who t U)) f e)

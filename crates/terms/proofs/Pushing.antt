@@ -41,9 +41,6 @@ module _ (names : List Declared) (x : Declared) (count count' : ℕ) (more : cou
       go false i f y h q = let l = m i f y h q in omega arith
 
 -- what parties start from, and one start more
-pub started_more : (starts : List Start) (count count' : ℕ) → count ≤ count' → Started starts count → Started starts count'
-started_more starts count count' more m i y h = let l = m i y h in omega arith
-
 pub started_push : (starts : List Start) (x : Start) (count : ℕ) → Started starts count → x.term < count → (b : Bool) (starts' : List Start) → starts' ≡ cond b (starts ++ x ∷ []) starts → Started starts' count
 started_push starts x count m g b starts' e = subst⁻¹ (λ ss. Started ss count) e (go b)
   where

@@ -153,9 +153,3 @@ module _ (text : List ℕ) (names : List Declared) (most : ℕ) where
             then_none (tree_in t) ps ∙ r.made,
             record { terms = r.mid; is = ap (λ b. cond b (read_all text names most xs us) (Err (Limit at))) (le-leb (count xs) 8 few) ∙ r.same; lists = r.lists },
           )
-
-      -- a part is refused, and so is the whole
-      pub onward_refused : (t t' : TermTable) (ks : List ℕ) (x : Term) (left : Terms) → Onward t ks (more x left) → (f : TermFault) → Reads text names t t' x most (Err f) → ReadsAll text names t₀ t' at xs most (Err f)
-      onward_refused t t' ks x left o f a us small l s =
-          let r = o us small l s in
-          refused_as f _ _ (ap (λ b. cond b (read_all text names most xs us) (Err (Limit at))) (le-leb (count xs) 8 few) ∙ r.same) (refused_next f (read_all text names most left) _ (a r.mid small r.lists r.said.0))
