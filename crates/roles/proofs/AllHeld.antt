@@ -35,9 +35,8 @@ use Rattle.roles.specs.Translating.{translation}
 use Rattle.roles.specs.TranslationLaw.{no_roles, Declares}
 use Rattle.roles.proofs.Holding.{rows_pass}
 use Rattle.roles.proofs.SoFar.{listing, WellTyped}
-use Rattle.roles.proofs.Translated.{accepted_so_far, messages_typed, counts_kept}
+use Rattle.roles.proofs.Translated.{accepted_so_far, messages_typed, counts_kept, translates}
 use Rattle.roles.proofs.Sending.{as_good}
-use Rattle.roles.proofs.TranslationLaw.{translation_law}
 
 -- what is declared, and messages that are typed over it, keep to the counts, whatever stands behind them
 module _ (text : List ℕ) (U : Scope) (c : Counted U) (d : ℕ) where
@@ -61,13 +60,13 @@ module _ (cs : List ℕ) (S : Specification) (acc : Accepted S) (kept : (d : ℕ
       (rows_pass cs S acc kept (k + 0) (vec_items r.rows) (f 0 (player_of t r) (omega arith)), each_held (k + 1) rs (λ j p h. let e : k + suc j ≡ k + 1 + j = omega arith in f (suc j) p (omega arith) ∙ ap (program S) e))
 
 module _ (limits : Limits) (text : List ℕ) where
-  abbrev then_lines : syntax.Specification → Scope → Result Stage TranslationFault
+  abbrev pub then_lines : syntax.Specification → Scope → Result Stage TranslationFault
   then_lines X U = refused_by Lines (lines limits text [] X.lines (no_roles U))
 
-  abbrev then_declared : syntax.Specification → Result Stage TranslationFault
+  abbrev pub then_declared : syntax.Specification → Result Stage TranslationFault
   then_declared X = bind (refused_by Declarations (declared text limits X)) (then_lines X)
 
-  abbrev then_shaped : Tree → Result Stage TranslationFault
+  abbrev pub then_shaped : Tree → Result Stage TranslationFault
   then_shaped t = bind (refused_by Shape (shape text t)) then_declared
 
   -- what is translated was declared, and its lines were accepted
@@ -99,7 +98,7 @@ module _ (limits : Limits) (text : List ℕ) where
       let G = stage_of T in
       let a = accepts G s in
       let c = declared_counted text limits a.spec a.scope a.declares.scope in
-      let w = (translation_law limits text).translates a.spec a.scope G a.declares a.lined in
+      let w = translates limits text a.spec a.scope G a.declares a.lined in
       let typed = messages_typed text limits a.spec a.scope a.declares.scope a.spec.lines G a.lined in
       let left = (accepted_so_far text limits a.spec a.scope a.declares.scope a.spec.lines [] G a.lined).scope in
       let same : counts_of T ≡ counts a.scope.functions = ap counts (ap (λ (z : Scope). z.functions) left) in

@@ -22,7 +22,7 @@ use Rattle.roles.specs.Labels.{unused}
 use Rattle.roles.specs.Refusals.{to_line}
 use Rattle.roles.specs.Stages.{Stage, refused_by, place_among, with_role, message, line, lines}
 use Rattle.roles.specs.Specified.{place_in, with_number, numbered, names_from, starting_terms}
-use Rattle.roles.specs.TranslationLaw.{Ready}
+use Rattle.roles.specs.TranslationLaw.{Steps}
 use Rattle.roles.proofs.RoleNames.{place_kept, at_place, number_added, number_placed, names_kept, names_then}
 use Rattle.roles.proofs.Sending.{as_good, message_then}
 use Rattle.roles.proofs.SoFar.{all, SoFar, placed, role_stands}
@@ -47,14 +47,14 @@ module _ (limits : Limits) (text : List ℕ) (n : ℕ) (l : Lined) (G : Stage) w
   from_receiver a H =
       bind (refused_by to_line (principal text H.scope l.receiver)) (λ b. cond (eqb b a) (Err (Repeated l.receiver.at)) (bind (with_role limits text b l.receiver H) (message_of a b)))
 
-  pub line_is : (m : Ready limits text l G) → line limits text n l G ≡ message_of m.sender m.receiver m.met
+  pub line_is : (m : Steps limits text l G) → line limits text n l G ≡ message_of m.sender m.receiver m.met
   line_is m =
       ap (λ o. bind (refused_by to_line o) (λ a. bind (with_role limits text a l.sender G) (from_receiver a))) m.finds_sender
       ∙ ap (λ o. bind o (from_receiver m.sender)) m.starts_sender
       ∙ ap (λ o. bind (refused_by to_line o) (λ b. cond (eqb b m.sender) (Err (Repeated l.receiver.at)) (bind (with_role limits text b l.receiver m.sent) (message_of m.sender b)))) m.finds_receiver
       ∙ cond-false _ _ _ m.two ∙ ap (λ o. bind o (message_of m.sender m.receiver)) m.starts_receiver
 
-  pub line_ready : (H : Stage) → line limits text n l G ≡ Ok H → (m : Ready limits text l G) × (message_of m.sender m.receiver m.met ≡ Ok H)
+  pub line_ready : (H : Stage) → line limits text n l G ≡ Ok H → (m : Steps limits text l G) × (message_of m.sender m.receiver m.met ≡ Ok H)
   line_ready H e =
       let a = steps (refused_by to_line (principal text G.scope l.sender)) (λ a. bind (with_role limits text a l.sender G) (from_receiver a)) H e in
       let s = steps (with_role limits text a.mid l.sender G) (from_receiver a.mid) H a.second in
@@ -63,7 +63,7 @@ module _ (limits : Limits) (text : List ℕ) (n : ℕ) (l : Lined) (G : Stage) w
     where
       two : (a b : ℕ) (K : Stage) → principal text G.scope l.sender ≡ Ok a → with_role limits text a l.sender G ≡ Ok K → principal text K.scope l.receiver ≡ Ok b
           → (c : Bool) → eqb b a ≡ c → cond c (Err (Repeated l.receiver.at)) (bind (with_role limits text b l.receiver K) (message_of a b)) ≡ Ok H
-          → (m : Ready limits text l G) × (message_of m.sender m.receiver m.met ≡ Ok H)
+          → (m : Steps limits text l G) × (message_of m.sender m.receiver m.met ≡ Ok H)
       two a b K p q r true c e = absurd (cc)
       two a b K p q r false c e =
           let t = steps (with_role limits text b l.receiver K) (message_of a b) H e in
@@ -86,7 +86,7 @@ module _ (limits : Limits) (text : List ℕ) (n : ℕ) (l : Lined) (G : Stage) w
 
 module _ (limits : Limits) (text : List ℕ) (U : Scope) (ls : List Lined) (formed : Every Formed (starting_terms text U)) where
   -- the two roles of a line
-  pub record Two (before after : List Lined) (l : Lined) (ns : List ℕ) (G : Stage) (m : Ready limits text l G) : Type 0 where
+  pub record Two (before after : List Lined) (l : Lined) (ns : List ℕ) (G : Stage) (m : Steps limits text l G) : Type 0 where
     pub sends : numbered text U l.sender ≡ m.sender
     pub receives : numbered text U l.receiver ≡ m.receiver
     pub so_far : SoFar text U ls before (names_from text U ns (l ∷ [])) m.met
@@ -109,7 +109,7 @@ module _ (limits : Limits) (text : List ℕ) (U : Scope) (ls : List Lined) (form
     abbrev both : List ℕ
     both = with_number b one
 
-    pub two_roles : (m : Ready limits text l G) → Two before after l ns G m
+    pub two_roles : (m : Steps limits text l G) → Two before after l ns G m
     two_roles m = record {
       sends = sends;
       receives = receives;

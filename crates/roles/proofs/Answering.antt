@@ -1,6 +1,12 @@
 -- A text that is translated, stage by stage: a fault of one is the fault of all, want of memory aside.
 use Rattle.std.proofs.Common.{◌≡◌, ℕ, List, [], map, inl, inr, Ok, Err, Result, sym, refl, ap, ap₂, ◌∙◌}
+use Rattle.text.specs.Reading.{Answers}
 use Rattle.text.specs.Trees.{Tree}
+use Rattle.text.specs.declared.fault.TextFault.{TextFault}
+use Rattle.text.specs.declared.fault.TextFault.TheVariants as texts
+use Rattle.syntax.specs.Seeing.{Shapes}
+use Rattle.syntax.specs.declared.fault.ShapeFault.{ShapeFault}
+use Rattle.syntax.specs.declared.fault.ShapeFault.TheVariants as shapes
 use Rattle.text.specs.Reading.{reading}
 use Rattle.syntax.specs.Shape.{shape}
 use Rattle.syntax.specs.Specs.{Specification}
@@ -35,9 +41,21 @@ module _ (limits : Limits) (bytes : List ℕ) where
   abbrev with_tree : Tree → Result Stage TranslationFault
   with_tree t = bind (refused_by Shape (shape bytes t)) with_spec
 
+  pub text_refused : (f : TextFault) → Answers (reading bytes) (Err f) → Translates (translation limits bytes) (Err (Text f))
+  text_refused (texts.Limit at) e = inl (ap (λ o. bind (refused_by Text o) with_tree) e)
+  text_refused (texts.Broken at) e = inl (ap (λ o. bind (refused_by Text o) with_tree) e)
+  text_refused (texts.NoMemory w) e = inr refl
+
   module _ (t : Tree) (et : reading bytes ≡ Ok t) where
     from_tree : translation limits bytes ≡ with_tree t
     from_tree = ap (λ o. bind (refused_by Text o) with_tree) et
+
+    pub shape_refused : (f : ShapeFault) → Shapes (shape bytes t) (Err f) → Translates (translation limits bytes) (Err (Shape f))
+    shape_refused (shapes.Limit at) e = inl (from_tree ∙ ap (λ o. bind (refused_by Shape o) with_spec) (e refl))
+    shape_refused (shapes.Misfit at) e = inl (from_tree ∙ ap (λ o. bind (refused_by Shape o) with_spec) (e refl))
+    shape_refused (shapes.NotCarried at) e = inl (from_tree ∙ ap (λ o. bind (refused_by Shape o) with_spec) (e refl))
+    shape_refused (shapes.NoName at) e = inl (from_tree ∙ ap (λ o. bind (refused_by Shape o) with_spec) (e refl))
+    shape_refused (shapes.NoMemory w) e = inr refl
 
     module _ (S : Specification) (es : shape bytes t ≡ Ok S) where
       from_spec : translation limits bytes ≡ with_spec S

@@ -27,7 +27,7 @@ use Rattle.roles.specs.Parties.{makes_of}
 use Rattle.roles.specs.Playing.{Player, term_number}
 use Rattle.roles.specs.Stages.{Stage, line, message as message_sent}
 use Rattle.roles.specs.Specified.{place_in, numbered, names_from, role_names, line_among, starting_terms, specified}
-use Rattle.roles.specs.TranslationLaw.{Ready, life_before, holds_at, Decided}
+use Rattle.roles.specs.TranslationLaw.{Steps, life_before, holds_at, sent_message, DerivesFor, BlamedFor}
 use Rattle.roles.proofs.AllLines.{line_is, Two, two_roles}
 use Rattle.roles.proofs.Coming.{came_life}
 use Rattle.roles.proofs.Doing.{Did}
@@ -35,6 +35,22 @@ use Rattle.roles.proofs.Outcome.{Unsaid, not_said, was_not_said}
 use Rattle.roles.proofs.RoleNames.{place_kept, at_place}
 use Rattle.roles.proofs.Sending.{own_then, sent, made}
 use Rattle.roles.proofs.SoFar.{all, modelled, doings, SoFar, counted, placed}
+
+-- a line behind others is refused as underivable: with a place, the number of a role, and the number of a term
+abbrev pub Refuses : Limits → List ℕ → List Lined → Lined → Stage → ℕ → ℕ → ℕ → Type 0
+Refuses limits text before l G at role term = line limits text (suc (length before)) l G ≡ Err (Underivable at role term)
+
+-- so it is exactly if the message does not derive for its sender; the fault has the message's place, the sender's number in the order of roles, and the number of the
+-- term that is to blame, which stands within the message and does not derive either
+pub record Decided (limits : Limits) (text : List ℕ) (U : Scope) (before : List Lined) (l : Lined) (G : Stage) (m : Steps limits text l G) : Type 0 where
+  pub sends : numbered text U l.sender ≡ m.sender
+  pub exactly : ((at role term : ℕ) × Refuses limits text before l G at role term) ↔ (¬ DerivesFor text U before l m.sender (sent_message text U before l))
+  pub derives : (¬ ((at role term : ℕ) × Refuses limits text before l G at role term)) → DerivesFor text U before l m.sender (sent_message text U before l)
+  pub places : (at role term : ℕ) → Refuses limits text before l G at role term → (at ≡ term_place l.message) × (role ≡ place_in m.sender (role_names text U (before ++ (l ∷ []))))
+  pub fails :
+      (at role term : ℕ) (none : Tree) → Refuses limits text before l G at role term
+      → (¬ DerivesFor text U before l m.sender (get_or m.listed.terms term none)) × Within (get_or m.listed.terms term none) (sent_message text U before l)
+  pub first : (at role term : ℕ) (none : Tree) → Refuses limits text before l G at role term → BlamedFor text U before l m.sender (get_or m.listed.terms term none)
 
 -- a listed term stands at its number
 at_number : (u : Tree) (us : List Tree) (d : Tree) → has u us ≡ true → get_or us (term_number u us) d ≡ u
@@ -70,7 +86,7 @@ module _ (P : Party) (L : Life) (s : Role) (mk : ℕ → Bool) (t : Tree) (d : D
       unlike e = absurd (cc)
 
 module _ (limits : Limits) (text : List ℕ) (U : Scope) (before : List Lined) (l : Lined) (formed : Every Formed (starting_terms text U))
-    (G : Stage) (h : SoFar text U (before ++ (l ∷ [])) before (all text U before) G) (m : Ready limits text l G) where
+    (G : Stage) (h : SoFar text U (before ++ (l ∷ [])) before (all text U before) G) (m : Steps limits text l G) where
   abbrev ls : List Lined
   ls = before ++ (l ∷ [])
 
@@ -183,6 +199,7 @@ module _ (limits : Limits) (text : List ℕ) (U : Scope) (before : List Lined) (
 
   pub decided : Decided limits text U before l G m
   decided = record {
+    sends = two.sends;
     exactly = subst (λ r. Refused ↔ (¬ DerivesAt r (message S k))) place_same (refused_exactly _ _ _ _ _ decides Refused refused why);
     derives = λ n. subst (λ r. DerivesAt r (message S k)) place_same (elim (refused_or_derives _ _ _ _ _ decides Refused refused why) [ inl z ↦ absurd (n z) | inr d ↦ d ]);
     places = λ at name term e. let b = because at name term e in (b.place, b.role ∙ place_same);

@@ -1,5 +1,5 @@
 -- Lines are refused as underivable only for a line whose roles are there and whose message is well typed.
-use Rattle.std.proofs.Common.{◌≡◌, ℕ, suc, ◌+◌, min, Bool, true, false, cond, eqb, leb, ltb, List, [], ◌∷◌, ◌++◌, length, Ok, Err, Result, refl, sym, ap, ◌∙◌, arith, length-append}
+use Rattle.std.proofs.Common.{◌≡◌, ℕ, suc, ◌+◌, min, Bool, true, false, cond, eqb, leb, ltb, List, [], ◌∷◌, ◌++◌, map, length, Ok, Err, Result, refl, sym, ap, ◌∙◌, append_assoc, append-nil, arith, length-append}
 use Rattle.std.specs.List.{list_any}
 use Rattle.model.specs.Roles.{start}
 use Rattle.syntax.specs.declared.spec.Label.{Label}
@@ -19,13 +19,13 @@ use Rattle.roles.specs.Playing.{Player}
 use Rattle.roles.specs.Refusals.{to_line}
 use Rattle.roles.specs.Stages.{Stage, refused_by, place_among, with_role, line, lines}
 use Rattle.roles.specs.Starting.{party_in, nobody, started}
-use Rattle.roles.specs.TranslationLaw.{no_roles, Ready, Stopped}
+use Rattle.roles.specs.TranslationLaw.{no_roles, Steps}
 use Rattle.roles.proofs.AllLines.{message_of, from_receiver}
 use Rattle.roles.proofs.Outcome.{ended_never}
 use Rattle.roles.proofs.Sending.{as_good}
 
 -- a step that does not fail so, and what follows it
-passed : {A B E : Type 0} (r : Result A E) (f : A → Result B E) (x : E) → (r ≡ Err x → ⊥) → bind r f ≡ Err x → (y : A) × (r ≡ Ok y) × (f y ≡ Err x)
+pub passed : {A B E : Type 0} (r : Result A E) (f : A → Result B E) (x : E) → (r ≡ Err x → ⊥) → bind r f ≡ Err x → (y : A) × (r ≡ Ok y) × (f y ≡ Err x)
 passed (Ok y) f x n e = (y, refl, e)
 passed (Err z) f x n e = absurd (n (let p : z ≡ x = cc in ap Err p))
 
@@ -64,7 +64,7 @@ module _ (at name term : ℕ) where
 
   module _ (limits : Limits) (text : List ℕ) where
     -- a line that is refused so is ready
-    line_stopped : (n : ℕ) (l : Lined) (G : Stage) → line limits text n l G ≡ Err underivable → Ready limits text l G
+    line_stopped : (n : ℕ) (l : Lined) (G : Stage) → line limits text n l G ≡ Err underivable → Steps limits text l G
     line_stopped n l G e =
         let a = passed (refused_by to_line (principal text G.scope l.sender)) (λ a. bind (with_role limits text a l.sender G) (from_receiver limits text n l G a)) underivable (no_step _) e in
         let s = passed (with_role limits text a.0 l.sender G) (from_receiver limits text n l G a.0) underivable (no_role limits text a.0 l.sender G) a.2 in
@@ -72,7 +72,7 @@ module _ (at name term : ℕ) where
         apart a.0 b.0 s.0 (as_good to_line _ a.0 a.1) s.1 (as_good to_line _ b.0 b.1) b.2
       where
         two : (a b : ℕ) (H : Stage) → principal text G.scope l.sender ≡ Ok a → with_role limits text a l.sender G ≡ Ok H → principal text H.scope l.receiver ≡ Ok b
-            → (c : Bool) → eqb b a ≡ c → cond c (Err (Repeated l.receiver.at)) (bind (with_role limits text b l.receiver H) (message_of limits text n l G a b)) ≡ Err underivable → Ready limits text l G
+            → (c : Bool) → eqb b a ≡ c → cond c (Err (Repeated l.receiver.at)) (bind (with_role limits text b l.receiver H) (message_of limits text n l G a b)) ≡ Err underivable → Steps limits text l G
         two a b H p q r true c e = absurd (cc)
         two a b H p q r false c e =
             let t = passed (with_role limits text b l.receiver H) (message_of limits text n l G a b) underivable (no_role limits text b l.receiver H) e in
@@ -92,7 +92,7 @@ module _ (at name term : ℕ) where
             }
 
         apart : (a b : ℕ) (H : Stage) → principal text G.scope l.sender ≡ Ok a → with_role limits text a l.sender G ≡ Ok H → principal text H.scope l.receiver ≡ Ok b
-            → cond (eqb b a) (Err (Repeated l.receiver.at)) (bind (with_role limits text b l.receiver H) (message_of limits text n l G a b)) ≡ Err underivable → Ready limits text l G
+            → cond (eqb b a) (Err (Repeated l.receiver.at)) (bind (with_role limits text b l.receiver H) (message_of limits text n l G a b)) ≡ Err underivable → Steps limits text l G
         apart a b H p q r = two a b H p q r (eqb b a) refl
 
     -- lines that come after some
@@ -106,6 +106,7 @@ module _ (at name term : ℕ) where
       pub number : ℕ
       pub counted : number ≡ suc (length earlier + length before)
       pub refused : line limits text number here stage ≡ Err underivable
+      pub label : unused text (earlier ++ map (λ (x : Lined). x.label) before) here.label ≡ Ok tt
 
     stopped_after : (ls : List Lined) (earlier : List Label) (G : Stage) → lines limits text earlier ls G ≡ Err underivable → StoppedAfter earlier G ls
     stopped_after [] earlier G e = absurd (cc)
@@ -127,6 +128,7 @@ module _ (at name term : ℕ) where
           number = s.number;
           counted = (let n = s.counted in let m = length-append earlier (l.label ∷ []) in omega arith);
           refused = s.refused;
+          label = ap (λ bs. unused text bs s.here.label) (sym (append_assoc earlier (l.label ∷ []) (map (λ (x : Lined). x.label) s.before))) ∙ s.label;
         }
 
         go : (r : Result Stage LineFault) → line limits text (suc (length earlier)) l G ≡ r → bind r (lines limits text (earlier ++ (l.label ∷ [])) ls) ≡ Err underivable
@@ -134,9 +136,32 @@ module _ (at name term : ℕ) where
         go (Ok H) q f k = more H q (k H f)
         go (Err x) q f k =
             let p : x ≡ underivable = cc in
-            record { before = []; here = l; after = ls; split = refl; stage = G; accepted = refl; number = suc (length earlier); counted = omega arith; refused = q ∙ ap Err p }
+            record {
+              before = [];
+              here = l;
+              after = ls;
+              split = refl;
+              stage = G;
+              accepted = refl;
+              number = suc (length earlier);
+              counted = omega arith;
+              refused = q ∙ ap Err p;
+              label = ap (λ bs. unused text bs l.label) (append-nil earlier) ∙ u.1;
+            }
 
-    pub lines_stopped : (U : Scope) (ls : List Lined) → lines limits text [] ls (no_roles U) ≡ Err underivable → Stopped limits text U ls at name term
+    -- the line for which lines are refused so
+    pub record StoppedAt (U : Scope) (ls : List Lined) : Type 0 where
+      pub before : List Lined
+      pub here : Lined
+      pub after : List Lined
+      pub split : ls ≡ before ++ (here ∷ after)
+      pub stage : Stage
+      pub accepted : lines limits text [] before (no_roles U) ≡ Ok stage
+      pub ready : Steps limits text here stage
+      pub refused : line limits text (suc (length before)) here stage ≡ Err underivable
+      pub label : unused text (map (λ (x : Lined). x.label) before) here.label ≡ Ok tt
+
+    pub lines_stopped : (U : Scope) (ls : List Lined) → lines limits text [] ls (no_roles U) ≡ Err underivable → StoppedAt U ls
     lines_stopped U ls e =
         let s = stopped_after ls [] (no_roles U) e in
         let c = s.counted in
@@ -151,4 +176,5 @@ module _ (at name term : ℕ) where
           accepted = s.accepted;
           ready = line_stopped (suc (length s.before)) s.here s.stage refused;
           refused = refused;
+          label = s.label;
         }

@@ -1,5 +1,5 @@
 -- What comes of accepted lines is what the model says of the specification that they stand for.
-use Rattle.std.proofs.Common.{◌≡◌, ℕ, ◌<◌, List, [], ◌∷◌, ◌++◌, map, length, get_or, Ok, sym, refl, ap, ◌∙◌, arith}
+use Rattle.std.proofs.Common.{◌≡◌, ℕ, ◌<◌, List, [], ◌∷◌, ◌++◌, map, length, get_or, Ok, sym, refl, ap, ◌∙◌, subst, append-nil, arith}
 use mathlib.Core.Path.{subst⁻¹}
 use Rattle.std.proofs.lemmas.Bool.{lt-ltb, cond-true}
 use Rattle.std.proofs.lemmas.List.{get_or-map}
@@ -21,7 +21,7 @@ use Rattle.terms.proofs.Standing.{stood_first}
 use Rattle.roles.specs.Playing.{Player}
 use Rattle.roles.specs.Stages.{Stage, lines}
 use Rattle.roles.specs.Specified.{line_among, starting_terms, specified}
-use Rattle.roles.specs.TranslationLaw.{no_roles, Performs, Translated}
+use Rattle.roles.specs.TranslationLaw.{no_roles, Declares, Performs, Translated}
 use Rattle.roles.proofs.AllLines.{lines_then}
 use Rattle.roles.proofs.Coming.{came_sayable}
 use Rattle.roles.proofs.SoFar.{all, doings, WellTyped, SoFar, counted}
@@ -82,6 +82,12 @@ module _ (text : List ℕ) (U : Scope) (formed : Every Formed (starting_terms te
 
   pub translated : Translated text U ls G
   translated = record { accepted = is_accepted; names = names_law S; many = counted text U ls ls (all text U ls) G h; each = performs }
+
+pub translates : (limits : Limits) (text : List ℕ) (X : syntax.Specification) (U : Scope) (G : Stage) → Declares limits text X U → lines limits text [] X.lines (no_roles U) ≡ Ok G
+    → Translated text U X.lines G
+translates limits text X U G d q =
+    translated text U (starts_formed text limits X U d.scope) X.lines G
+    (subst (λ ls. SoFar text U ls X.lines (all text U X.lines) G) (append-nil X.lines) (accepted_so_far text limits X U d.scope X.lines [] G q))
 
 -- the specification keeps to declared counts of parts if what somebody starts from and the messages do
 module _ (text : List ℕ) (U : Scope) (declared : ℕ → ℕ) where

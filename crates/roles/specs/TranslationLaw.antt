@@ -1,5 +1,6 @@
--- The law of translation: programs are the model's, and a line is refused as underivable exactly if its message does not derive.
-use Rattle.std.specs.Prelude.{◌≡◌, ℕ, suc, ◌<◌, ◌↔◌, min, false, List, [], ◌∷◌, ◌++◌, length, take, Ok, Err, ◌==◌, slice_index_or}
+-- The law of translation: programs are the model's, and a text is refused as underivable exactly if the message of a line does not derive for its sender.
+use Rattle.std.specs.Prelude.{◌≡◌, ℕ, suc, ◌<◌, ◌⊎◌, min, false, List, [], ◌∷◌, ◌++◌, length, take, None, Ok, Err, ◌==◌, slice_index_or, Result}
+use Rattle.model.specs.Lists.{Every}
 use Rattle.model.specs.Trees as model
 use Rattle.model.specs.Trees.{Within}
 use Rattle.model.specs.Deduction.{Derives}
@@ -18,9 +19,15 @@ use Rattle.terms.specs.declared.limits.Limits.{Limits}
 use Rattle.terms.specs.Declaring.{principal, with_term, declared}
 use Rattle.terms.specs.Scope.{Scope}
 use Rattle.roles.specs.declared.line_fault.LineFault.TheVariants.{Underivable}
+use Rattle.roles.specs.declared.translation.Translation.{Translation}
+use Rattle.roles.specs.declared.translation_fault.TranslationFault.{TranslationFault}
+use Rattle.roles.specs.declared.translation_fault.TranslationFault.TheVariants.{Lines}
+use Rattle.roles.specs.Labels.{equal_labels}
 use Rattle.roles.specs.Playing.{Player}
-use Rattle.roles.specs.Stages.{Stage, with_role, line, lines}
-use Rattle.roles.specs.Specified.{place_in, role_names, specified}
+use Rattle.roles.specs.Refusals.{translation_refusal}
+use Rattle.roles.specs.Stages.{Stage, with_role, lines}
+use Rattle.roles.specs.Staging.{stage_of}
+use Rattle.roles.specs.Specified.{place_in, numbered, role_names, specified}
 
 -- before any line
 abbrev pub no_roles : Scope → Stage
@@ -47,7 +54,7 @@ pub record Translated (text : List ℕ) (U : Scope) (ls : List Lined) (G : Stage
   pub each : (r : ℕ) (p : Player) → r < length G.players → Performs (specified text U ls) r (slice_index_or (role_names text U ls) r 0) (slice_index_or G.players r p)
 
 -- a line whose sender has its role (`sent`), then its receiver too (`met`), and whose message is well typed and listed
-pub record Ready (limits : Limits) (text : List ℕ) (l : Lined) (G : Stage) : Type 0 where
+pub record Steps (limits : Limits) (text : List ℕ) (l : Lined) (G : Stage) : Type 0 where
   pub sender : ℕ
   pub receiver : ℕ
   pub sent : Stage
@@ -59,6 +66,11 @@ pub record Ready (limits : Limits) (text : List ℕ) (l : Lined) (G : Stage) : T
   pub two : (receiver == sender) ≡ false
   pub starts_receiver : with_role limits text receiver l.receiver sent ≡ Ok met
   pub lists : with_term text (min limits.terms 512) l.message met.scope ≡ Ok listed
+
+-- a line that no line before it has the label of, and that passes the steps before its message is said
+pub record Ready (limits : Limits) (text : List ℕ) (before : List Lined) (l : Lined) (G : Stage) : Type 0 where
+  pub label : Every (λ (m : Lined). equal_labels text m.label l.label ≡ false) before
+  pub steps : Steps limits text l G
 
 -- a role's life in the first k lines, and what it holds when it says the next one
 abbrev pub life_before : Specification → ℕ → ℕ → Life
@@ -87,39 +99,63 @@ module _ (text : List ℕ) (U : Scope) (before : List Lined) (l : Lined) where
       let r = place_in sender (role_names text U (before ++ (l ∷ []))) in
       Blame (to_here.party r) (holds_at to_here r (length before)) sent_message u
 
--- a line behind others is refused as underivable: with a place, the number of a role, and the number of a term
-abbrev pub Refuses : Limits → List ℕ → List Lined → Lined → Stage → ℕ → ℕ → ℕ → Type 0
-Refuses limits text before l G at role term = line limits text (suc (length before)) l G ≡ Err (Underivable at role term)
-
--- so it is exactly if the message does not derive for its sender; the fault has the message's place, the sender's number in the order of roles, and the number of the
--- term that is to blame, which stands within the message and does not derive either
-pub record Decided (limits : Limits) (text : List ℕ) (U : Scope) (before : List Lined) (l : Lined) (G : Stage) (m : Ready limits text l G) : Type 0 where
-  pub exactly : ((at role term : ℕ) × Refuses limits text before l G at role term) ↔ (¬ DerivesFor text U before l m.sender (sent_message text U before l))
-  pub derives : (¬ ((at role term : ℕ) × Refuses limits text before l G at role term)) → DerivesFor text U before l m.sender (sent_message text U before l)
-  pub places : (at role term : ℕ) → Refuses limits text before l G at role term → (at ≡ term_place l.message) × (role ≡ place_in m.sender (role_names text U (before ++ (l ∷ []))))
-  pub fails :
-      (at role term : ℕ) (none : model.Tree) → Refuses limits text before l G at role term
-      → (¬ DerivesFor text U before l m.sender (slice_index_or m.listed.terms term none)) × Within (slice_index_or m.listed.terms term none) (sent_message text U before l)
-  pub first : (at role term : ℕ) (none : model.Tree) → Refuses limits text before l G at role term → BlamedFor text U before l m.sender (slice_index_or m.listed.terms term none)
-
--- the line for which lines are refused as underivable: those before it are accepted, and it is ready
-pub record Stopped (limits : Limits) (text : List ℕ) (U : Scope) (ls : List Lined) (at role term : ℕ) : Type 0 where
+-- a line of some: those before it are accepted, and it is ready
+pub record Reached (limits : Limits) (text : List ℕ) (U : Scope) (ls : List Lined) : Type 0 where
   pub before : List Lined
   pub here : Lined
   pub after : List Lined
   pub split : ls ≡ before ++ (here ∷ after)
   pub stage : Stage
   pub accepted : lines limits text [] before (no_roles U) ≡ Ok stage
-  pub ready : Ready limits text here stage
-  pub refused : Refuses limits text before here stage at role term
+  pub ready : Ready limits text before here stage
 
--- so it is for every text
-pub record TranslationLaw (limits : Limits) (text : List ℕ) : Type 0 where
-  pub translates :
-      (X : syntax.Specification) (U : Scope) (G : Stage) → Declares limits text X U → lines limits text [] X.lines (no_roles U) ≡ Ok G → Translated text U X.lines G
-  pub decides :
-      (X : syntax.Specification) (U : Scope) → Declares limits text X U → (before after : List Lined) (l : Lined) → X.lines ≡ before ++ (l ∷ after)
-      → (G : Stage) → lines limits text [] before (no_roles U) ≡ Ok G → (m : Ready limits text l G) → Decided limits text U before l G m
+-- the message of such a line does not derive for its sender: where it stands, the sender's number in the order of roles, and the number of the term that is to blame,
+-- which stands within the message and does not derive either
+module _ (limits : Limits) (text : List ℕ) (U : Scope) (ls : List Lined) (r : Reached limits text U ls) where
+  abbrev pub SenderDerives : model.Tree → Type 0
+  SenderDerives u = DerivesFor text U r.before r.here r.ready.steps.sender u
+
+  abbrev pub SenderLacks : Type 0
+  SenderLacks = ¬ SenderDerives (sent_message text U r.before r.here)
+
+  abbrev pub sender_place : ℕ
+  sender_place = place_in r.ready.steps.sender (role_names text U (r.before ++ (r.here ∷ [])))
+
+  pub record Blames (at role term : ℕ) : Type 0 where
+    pub lacks : SenderLacks
+    pub stands : at ≡ term_place r.here.message
+    pub sends : role ≡ sender_place
+    pub first : (none : model.Tree) → BlamedFor text U r.before r.here r.ready.steps.sender (slice_index_or r.ready.steps.listed.terms term none)
+    pub fails : (none : model.Tree) → ¬ SenderDerives (slice_index_or r.ready.steps.listed.terms term none)
+    pub within : (none : model.Tree) → Within (slice_index_or r.ready.steps.listed.terms term none) (sent_message text U r.before r.here)
+
+-- a translation is that of the specification that the text stands for: each role's program is the model's, and each message derives for its sender when it is said
+pub record Renders (limits : Limits) (text : List ℕ) (T : Translation) : Type 0 where
+  pub spec : syntax.Specification
+  pub scope : Scope
+  pub declares : Declares limits text spec scope
+  pub translated : Translated text scope spec.lines (stage_of T)
+  pub derives : (before after : List Lined) (l : Lined) → spec.lines ≡ before ++ (l ∷ after) → DerivesFor text scope before l (numbered text scope l.sender) (sent_message text scope before l)
+
+-- a text is refused as underivable for a line of it
+pub record Stopped (limits : Limits) (text : List ℕ) (at role term : ℕ) : Type 0 where
+  pub spec : syntax.Specification
+  pub scope : Scope
+  pub declares : Declares limits text spec scope
+  pub reached : Reached limits text scope spec.lines
+  pub blames : Blames limits text scope spec.lines reached at role term
+
+-- memory was wanting: this fault is no refusal
+pub record WantsMemory (result : Result Translation TranslationFault) : Type 0 where
+  pub fault : TranslationFault
+  pub is : result ≡ Err fault
+  pub none : translation_refusal fault ≡ None
+
+-- what is answered to a text: a translation is the model's; a refusal as underivable tells of a line whose message does not derive for its sender; and where there is
+-- such a line, that is what is answered
+pub record TranslationLaw (limits : Limits) (text : List ℕ) (result : Result Translation TranslationFault) : Type 0 where
+  pub renders : (T : Translation) → result ≡ Ok T → Renders limits text T
+  pub stopped : (at role term : ℕ) → result ≡ Err (Lines (Underivable at role term)) → Stopped limits text at role term
   pub stops :
-      (X : syntax.Specification) (U : Scope) → Declares limits text X U → (at role term : ℕ) → lines limits text [] X.lines (no_roles U) ≡ Err (Underivable at role term)
-      → Stopped limits text U X.lines at role term
+      (X : syntax.Specification) (U : Scope) → Declares limits text X U → (r : Reached limits text U X.lines) → SenderLacks limits text U X.lines r
+      → ((term : ℕ) × (result ≡ Err (Lines (Underivable (term_place r.here.message) (sender_place limits text U X.lines r) term)))) ⊎ WantsMemory result

@@ -14,10 +14,9 @@ use terms::declarations::Declarations;
 use terms::limits::Limits;
 use text::read_text;
 
-#[tactic(auto, using(crate::proofs::TranslationLaw::translation_law))]
 pub fn translate(heap: Global, text: &[u8], limits: Limits) -> Result<Translation, TranslationFault>
     ensures answers { Translates (translation limits text.now) result }
-    ensures law { TranslationLaw limits text.now }
+    ensures law { TranslationLaw limits text.now result }
     ensures held { IfOk result AllHeld }
 {
     let tree = read_text(heap, text)?;

@@ -28,8 +28,7 @@ use Rattle.roles.specs.Staging.{stage_of, players_of}
 use Rattle.roles.specs.Translating.{translation}
 use Rattle.roles.specs.TranslationLaw.{Translated}
 use Rattle.roles.proofs.AllHeld.{Accepts, accepts, specified_counted}
-use Rattle.roles.proofs.Translated.{accepted_so_far, messages_typed}
-use Rattle.roles.proofs.TranslationLaw.{translation_law}
+use Rattle.roles.proofs.Translated.{accepted_so_far, messages_typed, translates}
 use Rattle.store.specs.Semantics.{Semantics}
 use Rattle.run.specs.declared.run.Run.{Run}
 use Rattle.run.specs.Called.{Shows}
@@ -86,7 +85,7 @@ module _ (limits : Limits) (text : List ℕ) (T : Translation) (s : translation 
   X = specified text a.scope a.spec.lines
 
   w : Translated text a.scope a.spec.lines G
-  w = (translation_law limits text).translates a.spec a.scope G a.declares a.lined
+  w = translates limits text a.spec a.scope G a.declares a.lined
 
   -- new runs of the roles are new runs of the specification's programs
   module _ (runs : List Run) (z : NewRuns (vec_items T.roles) runs) where
