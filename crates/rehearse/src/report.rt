@@ -78,8 +78,8 @@ fn print_cost(out: &mut String, cost: usize, space: usize) -> fmt::Result {
     Ok(())
 }
 
-// As refusals are printed, in layer 5.
 fn print_refusal(out: &mut String, fault: RunFault) -> fmt::Result {
-    writeln!(out, "refused {} 5 {}", fault.number(), fault.place())?;
+    let refusal = fault.refusal();
+    writeln!(out, "{refusal}")?;
     Ok(())
 }

@@ -158,15 +158,13 @@ fn is_taken(reply: Reply) -> bool {
     matches!(reply, Reply::Done | Reply::Handle(_))
 }
 
-// As refusals are printed, in layer 5. Begin, say and hear are refused by a run, or because there is no such role.
+// Begin, say and hear are refused by a run, or because there is no such role.
 fn print_refusal(out: &mut String, reply: Reply, number: usize) -> fmt::Result {
     match reply {
-        Reply::Run(fault) => write!(
-            out,
-            ", refused {} 5 {} at call {number}",
-            fault.number(),
-            fault.place()
-        )?,
+        Reply::Run(fault) => {
+            let refusal = fault.refusal();
+            write!(out, ", {refusal} at call {number}")?
+        }
         Reply::NoRole => write!(out, ", no role at call {number}")?,
         _ => {}
     }

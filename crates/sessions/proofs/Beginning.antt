@@ -53,7 +53,7 @@ pub new_refused : (counts : List ℕ) (roles : List Role) (i : ℕ) (role : Role
     → (e : RunsFault) → RunOf counts rows (Err e) → AllNew counts roles (Err e)
 new_refused counts roles i role l is rows same Unsound q =
     some_at (λ (r : Role). passes counts (vec_items r.rows) ≡ false) roles i role l (subst (λ (r : Role). passes counts (vec_items r.rows) ≡ false) is (subst (λ xs. passes counts xs ≡ false) same q))
-new_refused counts roles i role l is rows same NoMemory q = tt
+new_refused counts roles i role l is rows same (NoMemory w) q = tt
 
 -- a byte holds the count of each function
 short_counts : (fs : List Function) → Every (λ (s : Signature). length s.parameters ≤ 8) (map signature_of fs) → map short_count fs ≡ counts (map signature_of fs)
@@ -127,7 +127,7 @@ module _ (limits : Limits) (text : List ℕ) (T : Translation) (s : translation 
 pub runs_of : (T : Translation) (counts : List ℕ) (r : Result (Vec Run Global) RunsFault) → AllNew counts (vec_items T.roles) r → RunsOf T counts r
 runs_of T counts (Ok runs) z = (z, λ limits text s. text_runs limits text T s (vec_items runs) z)
 runs_of T counts (Err Unsound) z = z
-runs_of T counts (Err NoMemory) z = tt
+runs_of T counts (Err (NoMemory w)) z = tt
 
 -- with the counts of its functions they can be held
 pub never_unsound : (limits : Limits) (text : List ℕ) (T : Translation) → translation limits text ≡ Ok (stage_of T) → AllHeld T → (cs : List ℕ) → cs ≡ map short_count (functions_of T.declarations)

@@ -6,4 +6,4 @@ use Rattle.sessions.specs.declared.fault.RunsFault.TheVariants.{Unsound, NoMemor
 
 abbrev pub runs_fault : ProgramFault → RunsFault
 runs_fault programs.Unsound = Unsound
-runs_fault (programs.NoMemory e) = NoMemory
+runs_fault (programs.NoMemory w) = NoMemory w

@@ -49,4 +49,4 @@ module _ {S : Type 0} (M : Semantics S) where
     abbrev pub Performs : List Request → S → S → Result (Vec Reply Global) SessionFault → Type 0
     Performs requests old new (Ok replies) = PerformedText requests old new (vec_items replies)
     Performs requests old new (Err (Translation f)) = Translates (translation limits text) (Err f) × (new ≡ old)
-    Performs requests old new (Err NoMemory) = new ≡ old
+    Performs requests old new (Err (NoMemory w)) = new ≡ old

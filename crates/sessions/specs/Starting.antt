@@ -59,16 +59,16 @@ pub record TextRuns (limits : Limits) (text : List ℕ) (runs : List Run) : Type
 abbrev pub RunOf : List ℕ → List Row → Result Run RunsFault → Type 0
 RunOf counts rows (Ok run) = (passes counts rows ≡ true) × ((m : Meaning) → Shows m run (new_plain (map lined rows)))
 RunOf counts rows (Err Unsound) = passes counts rows ≡ false
-RunOf counts rows (Err NoMemory) = Unit {0}
+RunOf counts rows (Err (NoMemory w)) = Unit {0}
 
 -- and so are runs of roles, if some role's rows cannot
 abbrev pub AllNew : List ℕ → List Role → Result (Vec Run Global) RunsFault → Type 0
 AllNew counts roles (Ok runs) = NewRuns roles (vec_items runs)
 AllNew counts roles (Err Unsound) = SomeOf (λ (r : Role). passes counts (vec_items r.rows) ≡ false) roles
-AllNew counts roles (Err NoMemory) = Unit {0}
+AllNew counts roles (Err (NoMemory w)) = Unit {0}
 
 -- new runs of a translation's roles are new runs of the roles of each text that it translates
 abbrev pub RunsOf : Translation → List ℕ → Result (Vec Run Global) RunsFault → Type 0
 RunsOf T counts (Ok runs) = NewRuns (vec_items T.roles) (vec_items runs) × ((limits : Limits) (text : List ℕ) → translation limits text ≡ Ok (stage_of T) → TextRuns limits text (vec_items runs))
 RunsOf T counts (Err Unsound) = SomeOf (λ (r : Role). passes counts (vec_items r.rows) ≡ false) (vec_items T.roles)
-RunsOf T counts (Err NoMemory) = Unit {0}
+RunsOf T counts (Err (NoMemory w)) = Unit {0}

@@ -7,15 +7,14 @@ ghost use Rattle.sessions.specs.Faults.{runs_fault};
 use base::NoMemory;
 use program::take_up::ProgramFault;
 use roles::translation_fault::TranslationFault;
-use std::alloc::AllocError;
 
 /// Why no request is performed.
 #[derive(Clone, Copy, PartialEq, Eq, Debug)]
 pub enum SessionFault {
     /// The text is not translated.
     Translation(TranslationFault),
-    /// Memory lacked.
-    NoMemory,
+    /// Memory lacked for the runs, or for the replies.
+    NoMemory(NoMemory),
 }
 
 impl From<TranslationFault> for SessionFault {
@@ -26,19 +25,11 @@ impl From<TranslationFault> for SessionFault {
     }
 }
 
-impl From<AllocError> for SessionFault {
-    ghost from_gives = { λ e r. r ≡ faults.NoMemory };
-
-    fn from(_error: AllocError) -> SessionFault {
-        SessionFault::NoMemory
-    }
-}
-
 impl From<NoMemory> for SessionFault {
-    ghost from_gives = { λ e r. r ≡ faults.NoMemory };
+    ghost from_gives = { λ e r. r ≡ faults.NoMemory e };
 
-    fn from(_lack: NoMemory) -> SessionFault {
-        SessionFault::NoMemory
+    fn from(lack: NoMemory) -> SessionFault {
+        SessionFault::NoMemory(lack)
     }
 }
 
@@ -48,7 +39,7 @@ pub enum RunsFault {
     /// Some role's rows do not pass the check with these counts of parts.
     Unsound,
     /// Memory lacked.
-    NoMemory,
+    NoMemory(NoMemory),
 }
 
 impl From<ProgramFault> for RunsFault {
@@ -57,23 +48,15 @@ impl From<ProgramFault> for RunsFault {
     fn from(fault: ProgramFault) -> RunsFault {
         match fault {
             ProgramFault::Unsound => RunsFault::Unsound,
-            ProgramFault::NoMemory(_) => RunsFault::NoMemory,
+            ProgramFault::NoMemory(lack) => RunsFault::NoMemory(lack),
         }
     }
 }
 
-impl From<AllocError> for RunsFault {
-    ghost from_gives = { λ e r. r ≡ runs.NoMemory };
-
-    fn from(_error: AllocError) -> RunsFault {
-        RunsFault::NoMemory
-    }
-}
-
 impl From<NoMemory> for RunsFault {
-    ghost from_gives = { λ e r. r ≡ runs.NoMemory };
+    ghost from_gives = { λ e r. r ≡ runs.NoMemory e };
 
-    fn from(_lack: NoMemory) -> RunsFault {
-        RunsFault::NoMemory
+    fn from(lack: NoMemory) -> RunsFault {
+        RunsFault::NoMemory(lack)
     }
 }

@@ -32,7 +32,7 @@ pub fn perform<S: Store>(
     let counts = counts_of(heap, translation.declarations.functions())?;
     let mut runs = match runs_of(heap, &translation, counts.as_slice()) {
         Ok(runs) => runs,
-        Err(RunsFault::NoMemory) => return Err(SessionFault::NoMemory),
+        Err(RunsFault::NoMemory(lack)) => return Err(SessionFault::NoMemory(lack)),
         Err(RunsFault::Unsound) => unreachable!(),
     };
     Ok(perform_on(heap, store, runs.as_mut_slice(), requests)?)
