@@ -22,7 +22,6 @@ use Rattle.roles.specs.Labels.{unused}
 use Rattle.roles.specs.Refusals.{to_line}
 use Rattle.roles.specs.Stages.{Stage, refused_by, place_among, with_role, message, line, lines}
 use Rattle.roles.specs.Specified.{place_in, with_number, numbered, names_from, starting_terms}
-use Rattle.roles.specs.TranslationLaw.{Steps}
 use Rattle.roles.proofs.RoleNames.{place_kept, at_place, number_added, number_placed, names_kept, names_then}
 use Rattle.roles.proofs.Sending.{as_good, message_then}
 use Rattle.roles.proofs.SoFar.{all, SoFar, placed, role_stands}
@@ -37,6 +36,20 @@ principal_is text S x a = go (number_of text S.names x.part) (meaning_of text S.
     go (Some k) (Some (Value Number shared)) e = absurd (cc)
     go (Some k) (Some (Value Principal shared)) e = cc
     go (Some k) (Some (Function f)) e = absurd (cc)
+
+-- a line whose sender has its role (`sent`), then its receiver too (`met`), and whose message is well typed and listed
+pub record Steps (limits : Limits) (text : List ℕ) (l : Lined) (G : Stage) : Type 0 where
+  pub sender : ℕ
+  pub receiver : ℕ
+  pub sent : Stage
+  pub met : Stage
+  pub listed : Scope
+  pub finds_sender : principal text G.scope l.sender ≡ Ok sender
+  pub starts_sender : with_role limits text sender l.sender G ≡ Ok sent
+  pub finds_receiver : principal text sent.scope l.receiver ≡ Ok receiver
+  pub two : eqb receiver sender ≡ false
+  pub starts_receiver : with_role limits text receiver l.receiver sent ≡ Ok met
+  pub lists : with_term text (min limits.terms 512) l.message met.scope ≡ Ok listed
 
 -- a line whose roles are there is its message
 module _ (limits : Limits) (text : List ℕ) (n : ℕ) (l : Lined) (G : Stage) where

@@ -12,7 +12,7 @@ use Rattle.terms.specs.declared.declarations.Function.{Function}
 use Rattle.terms.specs.declared.limits.Limits.{Limits}
 use Rattle.terms.specs.declared.table.TermTable.{TermTable}
 use Rattle.terms.specs.Meanings.{functions_of, signature_of}
-use Rattle.terms.specs.Scope.{Scope, Signature, bytes}
+use Rattle.terms.specs.Scope.{Signature, bytes}
 use Rattle.terms.specs.Declaring.{bind, declared}
 use Rattle.syntax.specs.Shape.{shape}
 use Rattle.roles.specs.declared.role.Role.{Role}

@@ -2,7 +2,7 @@
 use Rattle.std.proofs.Common.{◌≡◌, ℕ, zero, suc, ◌<◌, ◌↔◌, min, Bool, true, false, cond, T, ◌||◌, ◌⊎◌, List, [], ◌∷◌, ◌++◌, map, length, get_or, take, drop, Err, sym, refl, ap, ◌∙◌, subst, inl, inr, arith, length-append}
 use mathlib.Core.Path.{subst⁻¹}
 use Rattle.std.proofs.lemmas.Bool.{eq-eqb, cond-true}
-use Rattle.std.proofs.lemmas.List.{length-map, map-append, get_or-map}
+use Rattle.std.proofs.lemmas.List.{length-map, map-append}
 use Rattle.model.specs.Lists.{Every}
 use Rattle.model.specs.Trees.{Tree, Formed, Within, eq_tree}
 use Rattle.model.specs.Blame.{Blame}
@@ -27,12 +27,12 @@ use Rattle.roles.specs.Parties.{makes_of}
 use Rattle.roles.specs.Playing.{Player, term_number}
 use Rattle.roles.specs.Stages.{Stage, line, message as message_sent}
 use Rattle.roles.specs.Specified.{place_in, numbered, names_from, role_names, line_among, starting_terms, specified}
-use Rattle.roles.specs.TranslationLaw.{Steps, life_before, holds_at, sent_message, DerivesFor, BlamedFor}
-use Rattle.roles.proofs.AllLines.{line_is, Two, two_roles}
+use Rattle.roles.specs.TranslationLaw.{life_before, holds_at, sent_message, DerivesFor, BlamedFor}
+use Rattle.roles.proofs.AllLines.{Steps, line_is, Two, two_roles}
 use Rattle.roles.proofs.Coming.{came_life}
 use Rattle.roles.proofs.Doing.{Did}
 use Rattle.roles.proofs.Outcome.{Unsaid, not_said, was_not_said}
-use Rattle.roles.proofs.RoleNames.{place_kept, at_place}
+use Rattle.roles.proofs.RoleNames.{place_kept}
 use Rattle.roles.proofs.Sending.{own_then, sent, made}
 use Rattle.roles.proofs.SoFar.{all, modelled, doings, SoFar, counted, placed}
 

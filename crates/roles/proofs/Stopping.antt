@@ -19,8 +19,8 @@ use Rattle.roles.specs.Playing.{Player}
 use Rattle.roles.specs.Refusals.{to_line}
 use Rattle.roles.specs.Stages.{Stage, refused_by, place_among, with_role, line, lines}
 use Rattle.roles.specs.Starting.{party_in, nobody, started}
-use Rattle.roles.specs.TranslationLaw.{no_roles, Steps}
-use Rattle.roles.proofs.AllLines.{message_of, from_receiver}
+use Rattle.roles.specs.TranslationLaw.{no_roles}
+use Rattle.roles.proofs.AllLines.{Steps, message_of, from_receiver}
 use Rattle.roles.proofs.Outcome.{ended_never}
 use Rattle.roles.proofs.Sending.{as_good}
 

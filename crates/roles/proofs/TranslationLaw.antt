@@ -1,7 +1,9 @@
 -- The law of translation, proved.
-use Rattle.std.proofs.Common.{◌≡◌, ℕ, suc, List, [], ◌∷◌, ◌++◌, length, ◌⊎◌, inl, inr, None, Some, Ok, Err, Result, sym, refl, ap, ◌∙◌, subst, arith}
+use Rattle.std.proofs.Common.{◌≡◌, ℕ, zero, suc, List, [], ◌∷◌, ◌++◌, length, get_or, ◌⊎◌, inl, inr, None, Some, Ok, Err, Result, sym, refl, ap, ◌∙◌, subst, arith}
 use mathlib.Core.Path.{subst⁻¹}
 use Rattle.base.specs.declared.refusal.Refusal.{Refusal}
+use Rattle.model.specs.Lists.{Every}
+use Rattle.model.specs.Trees.{Tree, Within}
 use Rattle.text.specs.declared.fault.TextFault.{TextFault}
 use Rattle.text.specs.Reading.{reading}
 use Rattle.syntax.specs.declared.fault.ShapeFault.{ShapeFault}
@@ -11,6 +13,8 @@ use Rattle.syntax.specs.Specs as syntax
 use Rattle.syntax.specs.Specs.{Lined}
 use Rattle.terms.specs.declared.fault.DeclarationFault.{DeclarationFault}
 use Rattle.terms.specs.declared.limits.Limits.{Limits}
+use Rattle.terms.specs.declared.declarations.Declared.{Declared}
+use Rattle.terms.specs.Consistency.{Defined}
 use Rattle.terms.specs.Declaring.{bind, declared}
 use Rattle.terms.specs.Scope.{Scope}
 use Rattle.roles.specs.declared.line_fault.LineFault.{LineFault}
@@ -18,21 +22,35 @@ use Rattle.roles.specs.declared.line_fault.LineFault.TheVariants.{Underivable}
 use Rattle.roles.specs.declared.translation.Translation.{Translation}
 use Rattle.roles.specs.declared.translation_fault.TranslationFault.{TranslationFault}
 use Rattle.roles.specs.declared.translation_fault.TranslationFault.TheVariants.{Text, Shape, Declarations, Lines}
-use Rattle.roles.specs.Refusals.{translation_refusal}
-use Rattle.roles.specs.Specified.{numbered}
+use Rattle.roles.specs.Specified.{place_in, numbered, role_names}
 use Rattle.roles.specs.Stages.{Stage, refused_by, line, lines}
 use Rattle.roles.specs.Staging.{stage_of, Translates}
 use Rattle.roles.specs.Translating.{translation}
-use Rattle.roles.specs.TranslationLaw.{no_roles, Declares, Steps, Reached, SenderLacks, sender_place, sent_message, DerivesFor, Blames, Renders, Stopped, WantsMemory, TranslationLaw}
+use Rattle.roles.specs.TranslationLaw.{no_roles, Declares, Reached, SenderLacks, sender_place, sent_message, DerivesFor, BlamedFor, Renders, Stopped, WantsMemory, TranslationLaw}
+use Rattle.terms.proofs.Counted.{IsBelow}
+use Rattle.terms.proofs.CountedScopes.{declared_counted}
 use Rattle.roles.proofs.AllHeld.{then_lines, then_declared, then_shaped, accepts}
-use Rattle.roles.proofs.AllLines.{line_ready}
+use Rattle.roles.proofs.AllLines.{Steps, line_ready}
 use Rattle.roles.proofs.Deciding.{Decided, decided}
+use Rattle.roles.proofs.LineReadiness.{is_ready, was_ready}
 use Rattle.roles.proofs.LinesCut.{was_unused, is_unused, cut, line_refuses}
 use Rattle.roles.proofs.Sending.{as_good}
 use Rattle.roles.proofs.Stopping.{passed, lines_stopped}
 use Rattle.roles.proofs.Translated.{starts_formed, accepted_so_far, translates}
 
+-- functions' names stand for functions that are there
+defined_from : (count : ℕ) (ds : List Declared) → Every (λ (x : Declared). IsBelow count x.meaning) ds → Defined ds count
+defined_from count [] h k f n i e = absurd (omega arith)
+defined_from count (x ∷ ds) h zero f n i e = subst (IsBelow count) e h.0
+defined_from count (x ∷ ds) h (suc k) f n i e = defined_from count ds h.1 k f n (omega arith) e
+
 module _ (limits : Limits) (text : List ℕ) where
+  defined_at : (X : syntax.Specification) (U : Scope) → Declares limits text X U → (before : List Lined) (l : Lined) (G : Stage) → lines limits text [] before (no_roles U) ≡ Ok G
+      → Defined G.scope.names (length G.scope.functions)
+  defined_at X U d before l G q =
+      subst⁻¹ (λ (S : Scope). Defined S.names (length S.functions)) (accepted_so_far text limits X U d.scope before (l ∷ []) G q).scope
+      (defined_from (length U.functions) U.names (declared_counted text limits X U d.scope).defined)
+
   -- a line behind accepted ones
   decides : (X : syntax.Specification) (U : Scope) → Declares limits text X U → (before : List Lined) (l : Lined) (G : Stage) → lines limits text [] before (no_roles U) ≡ Ok G
       → (m : Steps limits text l G) → Decided limits text U before l G m
@@ -99,28 +117,27 @@ module _ (limits : Limits) (text : List ℕ) where
       found : (X : syntax.Specification) (U : Scope) → Declares limits text X U → lines limits text [] X.lines (no_roles U) ≡ Err (Underivable at role term) → Stopped limits text at role term
       found X U d e =
           let s = lines_stopped at role term limits text U X.lines e in
-          let w = decides X U d s.before s.here s.stage s.accepted s.ready in
+          let m = s.ready in
+          let w = decides X U d s.before s.here s.stage s.accepted m in
           let p = w.places at role term s.refused in
+          let z = is_ready limits text s.before s.here s.stage (defined_at X U d s.before s.here s.stage s.accepted) m (was_unused text s.here.label s.before s.label) in
+          let roles = role_names text U (s.before ++ (s.here ∷ [])) in
           record {
             spec = X;
             scope = U;
             declares = d;
-            reached = record {
-              before = s.before;
-              here = s.here;
-              after = s.after;
-              split = s.split;
-              stage = s.stage;
-              accepted = s.accepted;
-              ready = record { label = was_unused text s.here.label s.before s.label; steps = s.ready };
-            };
+            reached = record { before = s.before; here = s.here; after = s.after; split = s.split; stage = s.stage; accepted = s.accepted; ready = z.0 };
             blames = record {
-              lacks = w.exactly.0 (at, role, term, s.refused);
+              lacks = subst⁻¹ (λ a. ¬ DerivesFor text U s.before s.here a (sent_message text U s.before s.here)) z.1 (w.exactly.0 (at, role, term, s.refused));
               stands = p.0;
-              sends = p.1;
-              first = λ none. w.first at role term none s.refused;
-              fails = λ none. (w.fails at role term none s.refused).0;
-              within = λ none. (w.fails at role term none s.refused).1;
+              sends = p.1 ∙ ap (λ a. place_in a roles) (sym z.1);
+              first =
+                  subst (λ us. (none : Tree) → BlamedFor text U s.before s.here (z.0).sender (get_or us term none)) z.2
+                  (subst⁻¹ (λ a. (none : Tree) → BlamedFor text U s.before s.here a (get_or m.listed.terms term none)) z.1 (λ none. w.first at role term none s.refused));
+              fails =
+                  subst (λ us. (none : Tree) → ¬ DerivesFor text U s.before s.here (z.0).sender (get_or us term none)) z.2
+                  (subst⁻¹ (λ a. (none : Tree) → ¬ DerivesFor text U s.before s.here a (get_or m.listed.terms term none)) z.1 (λ none. (w.fails at role term none s.refused).0));
+              within = subst (λ us. (none : Tree) → Within (get_or us term none) (sent_message text U s.before s.here)) z.2 (λ none. (w.fails at role term none s.refused).1);
             };
           }
 
@@ -128,9 +145,11 @@ module _ (limits : Limits) (text : List ℕ) where
   stops : (X : syntax.Specification) (U : Scope) → Declares limits text X U → (r : Reached limits text U X.lines) → SenderLacks limits text U X.lines r
       → (term : ℕ) × (translation limits text ≡ Err (Lines (Underivable (term_place r.here.message) (sender_place limits text U X.lines r) term)))
   stops X U d r n =
-      let w = decides X U d r.before r.here r.stage r.accepted r.ready.steps in
-      let z = w.exactly.1 n in
+      let m = was_ready limits text r.before r.here r.stage (defined_at X U d r.before r.here r.stage r.accepted) r.ready in
+      let w = decides X U d r.before r.here r.stage r.accepted m.0 in
+      let z = w.exactly.1 (subst (λ a. ¬ DerivesFor text U r.before r.here a (sent_message text U r.before r.here)) m.1 n) in
       let p = w.places z.0 z.1 z.2 z.3 in
+      let q = p.1 ∙ ap (λ a. place_in a (role_names text U (r.before ++ (r.here ∷ [])))) (sym m.1) in
       let e = line_refuses limits text r.before r.after r.here (no_roles U) r.stage (Underivable z.0 z.1 z.2) r.accepted (is_unused text r.here.label r.before r.ready.label) z.3 in (
         z.2,
         ap (λ o. bind (refused_by Text o) (then_shaped limits text)) d.read
@@ -138,7 +157,7 @@ module _ (limits : Limits) (text : List ℕ) where
             ∙ ap (λ o. bind (refused_by Declarations o) (then_lines limits text X)) d.scope
             ∙ ap (λ ls. refused_by Lines (lines limits text [] ls (no_roles U))) r.split
             ∙ ap (refused_by Lines) e
-            ∙ (λ i. Err (Lines (Underivable (p.0 i) (p.1 i) z.2))),
+            ∙ (λ i. Err (Lines (Underivable (p.0 i) (q i) z.2))),
       )
 
   -- what is answered

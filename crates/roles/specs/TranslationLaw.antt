@@ -1,6 +1,5 @@
 -- The law of translation: programs are the model's, and a text is refused as underivable exactly if the message of a line does not derive for its sender.
-use Rattle.std.specs.Prelude.{◌≡◌, ℕ, suc, ◌<◌, ◌⊎◌, min, false, List, [], ◌∷◌, ◌++◌, length, take, None, Ok, Err, ◌==◌, slice_index_or, Result}
-use Rattle.model.specs.Lists.{Every}
+use Rattle.std.specs.Prelude.{◌≡◌, ℕ, suc, ◌<◌, ◌⊎◌, List, [], ◌∷◌, ◌++◌, length, take, None, Ok, Err, slice_index_or, Result}
 use Rattle.model.specs.Trees as model
 use Rattle.model.specs.Trees.{Within}
 use Rattle.model.specs.Deduction.{Derives}
@@ -16,16 +15,16 @@ use Rattle.syntax.specs.Places.{term_place}
 use Rattle.syntax.specs.Specs as syntax
 use Rattle.syntax.specs.Specs.{Lined}
 use Rattle.terms.specs.declared.limits.Limits.{Limits}
-use Rattle.terms.specs.Declaring.{principal, with_term, declared}
+use Rattle.terms.specs.Declaring.{declared}
 use Rattle.terms.specs.Scope.{Scope}
 use Rattle.roles.specs.declared.line_fault.LineFault.TheVariants.{Underivable}
 use Rattle.roles.specs.declared.translation.Translation.{Translation}
 use Rattle.roles.specs.declared.translation_fault.TranslationFault.{TranslationFault}
 use Rattle.roles.specs.declared.translation_fault.TranslationFault.TheVariants.{Lines}
-use Rattle.roles.specs.Labels.{equal_labels}
+use Rattle.roles.specs.LineReadiness.{terms_with, Ready}
 use Rattle.roles.specs.Playing.{Player}
 use Rattle.roles.specs.Refusals.{translation_refusal}
-use Rattle.roles.specs.Stages.{Stage, with_role, lines}
+use Rattle.roles.specs.Stages.{Stage, lines}
 use Rattle.roles.specs.Staging.{stage_of}
 use Rattle.roles.specs.Specified.{place_in, numbered, role_names, specified}
 
@@ -52,25 +51,6 @@ pub record Translated (text : List ℕ) (U : Scope) (ls : List Lined) (G : Stage
   pub names : MakesOnce (specified text U ls)
   pub many : length G.players ≡ (specified text U ls).roles
   pub each : (r : ℕ) (p : Player) → r < length G.players → Performs (specified text U ls) r (slice_index_or (role_names text U ls) r 0) (slice_index_or G.players r p)
-
--- a line whose sender has its role (`sent`), then its receiver too (`met`), and whose message is well typed and listed
-pub record Steps (limits : Limits) (text : List ℕ) (l : Lined) (G : Stage) : Type 0 where
-  pub sender : ℕ
-  pub receiver : ℕ
-  pub sent : Stage
-  pub met : Stage
-  pub listed : Scope
-  pub finds_sender : principal text G.scope l.sender ≡ Ok sender
-  pub starts_sender : with_role limits text sender l.sender G ≡ Ok sent
-  pub finds_receiver : principal text sent.scope l.receiver ≡ Ok receiver
-  pub two : (receiver == sender) ≡ false
-  pub starts_receiver : with_role limits text receiver l.receiver sent ≡ Ok met
-  pub lists : with_term text (min limits.terms 512) l.message met.scope ≡ Ok listed
-
--- a line that no line before it has the label of, and that passes the steps before its message is said
-pub record Ready (limits : Limits) (text : List ℕ) (before : List Lined) (l : Lined) (G : Stage) : Type 0 where
-  pub label : Every (λ (m : Lined). equal_labels text m.label l.label ≡ false) before
-  pub steps : Steps limits text l G
 
 -- a role's life in the first k lines, and what it holds when it says the next one
 abbrev pub life_before : Specification → ℕ → ℕ → Life
@@ -113,21 +93,21 @@ pub record Reached (limits : Limits) (text : List ℕ) (U : Scope) (ls : List Li
 -- which stands within the message and does not derive either
 module _ (limits : Limits) (text : List ℕ) (U : Scope) (ls : List Lined) (r : Reached limits text U ls) where
   abbrev pub SenderDerives : model.Tree → Type 0
-  SenderDerives u = DerivesFor text U r.before r.here r.ready.steps.sender u
+  SenderDerives u = DerivesFor text U r.before r.here r.ready.sender u
 
   abbrev pub SenderLacks : Type 0
   SenderLacks = ¬ SenderDerives (sent_message text U r.before r.here)
 
   abbrev pub sender_place : ℕ
-  sender_place = place_in r.ready.steps.sender (role_names text U (r.before ++ (r.here ∷ [])))
+  sender_place = place_in r.ready.sender (role_names text U (r.before ++ (r.here ∷ [])))
 
   pub record Blames (at role term : ℕ) : Type 0 where
     pub lacks : SenderLacks
     pub stands : at ≡ term_place r.here.message
     pub sends : role ≡ sender_place
-    pub first : (none : model.Tree) → BlamedFor text U r.before r.here r.ready.steps.sender (slice_index_or r.ready.steps.listed.terms term none)
-    pub fails : (none : model.Tree) → ¬ SenderDerives (slice_index_or r.ready.steps.listed.terms term none)
-    pub within : (none : model.Tree) → Within (slice_index_or r.ready.steps.listed.terms term none) (sent_message text U r.before r.here)
+    pub first : (none : model.Tree) → BlamedFor text U r.before r.here r.ready.sender (slice_index_or (terms_with text r.here.message r.stage) term none)
+    pub fails : (none : model.Tree) → ¬ SenderDerives (slice_index_or (terms_with text r.here.message r.stage) term none)
+    pub within : (none : model.Tree) → Within (slice_index_or (terms_with text r.here.message r.stage) term none) (sent_message text U r.before r.here)
 
 -- a translation is that of the specification that the text stands for: each role's program is the model's, and each message derives for its sender when it is said
 pub record Renders (limits : Limits) (text : List ℕ) (T : Translation) : Type 0 where
