@@ -1,6 +1,6 @@
 // A store that can be made anew, as large as it can be.
-use rows::rows::Rows;
 use base::NoMemory;
+use rows::rows::Rows;
 use std::alloc::Global;
 use store::store::Store;
 use tape::tape::Tape;
