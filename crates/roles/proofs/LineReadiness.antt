@@ -29,6 +29,7 @@ use Rattle.roles.specs.Starting.{party_in, nobody, started}
 use Rattle.roles.proofs.AllLines.{Steps}
 use Rattle.roles.proofs.Changing.{place_is}
 use Rattle.roles.proofs.Doing.{after}
+use Rattle.roles.proofs.FewParts.{AtMostEight}
 use Rattle.roles.proofs.MessageTerms.{was_read, is_read}
 use Rattle.roles.proofs.RoleNames.{number_there, number_new}
 
@@ -161,7 +162,6 @@ module _ (limits : Limits) (text : List ℕ) (before : List Lined) (l : Lined) (
           sender_stands = a.stands;
           receiver_stands = subst (λ ns. MayStand limits G.scope ns m.receiver) a.names (subst (λ S. MayStand limits S (names_of m.sent) m.receiver) a.scope b.stands);
           typed = ((typing_law text G.scope d).good l.message Number).0 typed_here;
-          parts = w.few;
           terms = subst (λ vs. (k : ℕ) → ¬ (k < length G.scope.terms) → k < length vs → k < most) w.is w.below;
         },
         refl,
@@ -171,8 +171,8 @@ module _ (limits : Limits) (text : List ℕ) (before : List Lined) (l : Lined) (
       unlike : true ≡ false → ⊥
       unlike e = absurd (cc)
 
-  pub was_ready : (r : Ready limits text before l G) → (m : Steps limits text l G) × (r.sender ≡ m.sender) × (m.listed.terms ≡ terms_with text l.message G)
-  was_ready r =
+  pub was_ready : AtMostEight l.message → (r : Ready limits text before l G) → (m : Steps limits text l G) × (r.sender ≡ m.sender) × (m.listed.terms ≡ terms_with text l.message G)
+  was_ready few r =
       let a = enters limits text r.sender l.sender G r.sender_stands in
       let x = entered limits text r.sender l.sender G a.0 a.1 in
       let b = enters limits text r.receiver l.receiver a.0
@@ -180,7 +180,7 @@ module _ (limits : Limits) (text : List ℕ) (before : List Lined) (l : Lined) (
       let y = entered limits text r.receiver l.receiver a.0 b.0 b.1 in
       let same : (b.0).scope ≡ G.scope = y.scope ∙ x.scope in
       let t = ((typing_law text G.scope d).good l.message Number).1 r.typed in
-      let q = is_read text G.scope.names most l.message G.scope.terms r.parts r.terms in
+      let q = is_read text G.scope.names most l.message G.scope.terms few r.terms in
       let listed : Scope = record { names = G.scope.names; functions = G.scope.functions; starts = G.scope.starts; rights = G.scope.rights; terms = terms_with text l.message G } in (
         record {
           sender = r.sender;

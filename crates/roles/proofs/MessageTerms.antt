@@ -10,7 +10,8 @@ use Rattle.terms.specs.declared.fault.TermFault.TheVariants.{Limit}
 use Rattle.terms.specs.Numbering.{tree, trees, has, noted, next, at_most_eight, read, read_all}
 use Rattle.terms.specs.TermNumbers.{read_in, read_in_all}
 use Rattle.terms.proofs.Steps.{steps_read, few_read}
-use Rattle.roles.specs.LineReadiness.{AtMostEight, EachAtMostEight, joined, Below}
+use Rattle.roles.specs.LineReadiness.{joined, Below}
+use Rattle.roles.proofs.FewParts.{AtMostEight, EachAtMostEight}
 
 joined_append : (us xs ys : List Tree) → joined us (xs ++ ys) ≡ joined (joined us xs) ys
 joined_append us [] ys = refl

@@ -32,6 +32,7 @@ use Rattle.terms.proofs.CountedScopes.{declared_counted}
 use Rattle.roles.proofs.AllHeld.{then_lines, then_declared, then_shaped, accepts}
 use Rattle.roles.proofs.AllLines.{Steps, line_ready}
 use Rattle.roles.proofs.Deciding.{Decided, decided}
+use Rattle.roles.proofs.FewParts.{message_few}
 use Rattle.roles.proofs.LineReadiness.{is_ready, was_ready}
 use Rattle.roles.proofs.LinesCut.{was_unused, is_unused, cut, line_refuses}
 use Rattle.roles.proofs.Sending.{as_good}
@@ -145,7 +146,7 @@ module _ (limits : Limits) (text : List ℕ) where
   stops : (X : syntax.Specification) (U : Scope) → Declares limits text X U → (r : Reached limits text U X.lines) → SenderLacks limits text U X.lines r
       → (term : ℕ) × (translation limits text ≡ Err (Lines (Underivable (term_place r.here.message) (sender_place limits text U X.lines r) term)))
   stops X U d r n =
-      let m = was_ready limits text r.before r.here r.stage (defined_at X U d r.before r.here r.stage r.accepted) r.ready in
+      let m = was_ready limits text r.before r.here r.stage (defined_at X U d r.before r.here r.stage r.accepted) (message_few text d.tree X d.shaped r.before r.after r.here r.split) r.ready in
       let w = decides X U d r.before r.here r.stage r.accepted m.0 in
       let z = w.exactly.1 (subst (λ a. ¬ DerivesFor text U r.before r.here a (sent_message text U r.before r.here)) m.1 n) in
       let p = w.places z.0 z.1 z.2 z.3 in

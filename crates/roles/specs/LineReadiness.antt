@@ -4,7 +4,7 @@ use Rattle.model.specs.Lists.{Every}
 use Rattle.model.specs.Trees.{Tree}
 use Rattle.model.specs.Roles.{Role, start}
 use Rattle.syntax.specs.declared.spec.Name.{Name}
-use Rattle.syntax.specs.Specs.{Term, name, tuple, crypt, apply, Terms, none, more, count, Lined}
+use Rattle.syntax.specs.Specs.{Term, Lined}
 use Rattle.terms.specs.declared.declarations.Meaning.TheVariants.{Value}
 use Rattle.terms.specs.declared.declarations.ValueType.TheVariants.{Number, Principal}
 use Rattle.terms.specs.declared.limits.Limits.{Limits}
@@ -39,18 +39,6 @@ pub record MayStart (limits : Limits) (S : Scope) (roles : List ℕ) (n : ℕ) :
 abbrev pub MayStand : Limits → Scope → List ℕ → ℕ → Type 0
 MayStand limits S roles n = ¬ (place_in n roles < length roles) → MayStart limits S roles n
 
--- a tuple and an application have at most eight parts
-abbrev mutual
-  pub AtMostEight : Term → Type 0
-  AtMostEight (name at p) = Unit {0}
-  AtMostEight (tuple at ts) = (count ts ≤ 8) × EachAtMostEight ts
-  AtMostEight (crypt at t k) = AtMostEight t × AtMostEight k
-  AtMostEight (apply at f ts) = (count ts ≤ 8) × EachAtMostEight ts
-
-  pub EachAtMostEight : Terms → Type 0
-  EachAtMostEight none = Unit {0}
-  EachAtMostEight (more t ts) = AtMostEight t × EachAtMostEight ts
-
 -- terms, and behind them those of others that are not yet among them
 abbrev pub joined : List Tree → List Tree → List Tree
 joined us [] = us
@@ -80,5 +68,4 @@ pub record Ready (limits : Limits) (text : List ℕ) (before : List Lined) (l : 
   pub sender_stands : MayStand limits G.scope (names_of G) sender
   pub receiver_stands : MayStand limits G.scope (with_number sender (names_of G)) receiver
   pub typed : HasType text G.scope l.message Number
-  pub parts : AtMostEight l.message
   pub terms : Below (min limits.terms 512) G.scope.terms (terms_with text l.message G)
