@@ -9,14 +9,14 @@ use crate::fault::ShapeFault;
 use crate::source::{Bracket, Headed, Item, Source, short};
 use crate::spec::{Declaration, Name};
 use crate::symbol::{FunctionClass, Symbol};
-use base::push;
+use base::{push, with_room};
 use text::node::Node;
 
 impl Source<'_> {
     pub(crate) fn declarations(self, parts: &[Node]) -> Result<Vec<Declaration>, ShapeFault>
         ensures { seeing.Gives (λ ds. map declared_of ds.items) (shape.declarations self.entry.text.now (trees_of parts.now)) result }
     {
-        let mut declarations = Vec::new(self.heap);
+        let mut declarations = with_room(self.heap, parts.len())?;
         for part in parts {
             push(&mut declarations, self.declaration(part)?)?;
         }
@@ -101,7 +101,7 @@ impl Source<'_> {
     fn names(self, parts: &[Node]) -> Result<Vec<Name>, ShapeFault>
         ensures { seeing.Gives (λ ns. ns.items) (shape.names self.entry.text.now (trees_of parts.now)) result }
     {
-        let mut names = Vec::new(self.heap);
+        let mut names = with_room(self.heap, parts.len())?;
         for part in parts {
             push(&mut names, self.name(part)?)?;
         }

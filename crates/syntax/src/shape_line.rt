@@ -9,14 +9,14 @@ use crate::fault::ShapeFault;
 use crate::source::{Bracket, Item, Source, short};
 use crate::spec::{Label, Line};
 use crate::symbol::Symbol;
-use base::push;
+use base::{push, with_room};
 use text::node::Node;
 
 impl Source<'_> {
     pub(crate) fn lines(self, parts: &[Node]) -> Result<Vec<Line>, ShapeFault>
         ensures { seeing.Gives (λ ls. map line_of ls.items) (shape.lines self.entry.text.now (trees_of parts.now)) result }
     {
-        let mut lines = Vec::new(self.heap);
+        let mut lines = with_room(self.heap, parts.len())?;
         for part in parts {
             push(&mut lines, self.line(part)?)?;
         }

@@ -9,7 +9,7 @@ use crate::fault::ShapeFault;
 use crate::source::{Bracket, Headed, Item, MOST_PARTS, Source, short};
 use crate::spec::Term;
 use crate::symbol::Symbol;
-use base::{boxed, push};
+use base::{boxed, push, with_room};
 use text::node::Node;
 
 impl Source<'_> {
@@ -34,7 +34,7 @@ impl Source<'_> {
     fn terms(self, parts: &[Node]) -> Result<Vec<Term>, ShapeFault>
         ensures { seeing.Gives (λ ts. terms_of ts.items) (shape.terms self.entry.text.now (trees_of parts.now)) result }
     {
-        let mut terms = Vec::new(self.heap);
+        let mut terms = with_room(self.heap, parts.len())?;
         for part in parts {
             push(&mut terms, self.term(part)?)?;
         }

@@ -14,7 +14,7 @@ pub struct Name {
 }
 
 // A term, with the place of each bracket.
-#[derive(Drop)]
+#[derive(Clone, Drop)]
 pub enum Term {
     Name(Name),
     Tuple {
@@ -33,7 +33,7 @@ pub enum Term {
     },
 }
 
-#[derive(Drop)]
+#[derive(Clone, Drop)]
 pub enum Declaration {
     // a name with its type; a shared one is never made
     Value {
@@ -63,7 +63,7 @@ pub enum Label {
     Name(Name),
 }
 
-#[derive(Drop)]
+#[derive(Clone, Drop)]
 pub struct Line {
     pub label: Label,
     pub sender: Name,

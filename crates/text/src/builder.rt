@@ -1,5 +1,5 @@
 // A tree that is being built from the tokens of its text.
-ghost use Rattle.std.specs.Prelude.{◌≡◌, ◌+◌, ◌<◌, [], ◌∷◌, Ok, OnOk};
+ghost use Rattle.std.specs.Prelude.{◌≡◌, ◌+◌, ◌<◌, [], ◌∷◌, Ok, IfOk, OnOk};
 ghost use Rattle.text.specs.Machine.{put};
 ghost use Rattle.text.specs.Nodes.{tree_of};
 ghost use Rattle.text.specs.Reading.{count, full};
@@ -11,7 +11,7 @@ use crate::fault::TextFault;
 use crate::node::Node;
 use crate::part::Part;
 use crate::token::Token;
-use base::{NoMemory, push};
+use base::{NoMemory, push, with_room};
 use std::alloc::Global;
 
 // how many nodes a text has at most
@@ -34,6 +34,9 @@ pub(crate) struct Builder {
     pub heap: Global,
     // the innermost bracket last
     pub brackets: Vec<Open>,
+    // lists of brackets that were closed, for the parts of brackets to come: parts are gathered there, and go into lists of just
+    // their number when the bracket closes
+    pub spare: Vec<Vec<Node>>,
     // how many nodes have begun
     pub begun: usize,
 }
@@ -45,6 +48,7 @@ impl Builder {
         Builder {
             heap,
             brackets: Vec::new(heap),
+            spare: Vec::new(heap),
             begun: 0,
         }
     }
@@ -95,8 +99,36 @@ impl Builder {
         ensures counted { OnOk result (self.new.begun ≡ count (frames self.new.brackets.items)) }
     {
         self.begun += 1;
-        let parts = Vec::new(self.heap);
+        let parts = self.empty_list();
         push(&mut self.brackets, Open { at, symbol, parts })
+    }
+
+    // A list without nodes, to gather some in.
+    fn empty_list(&mut self) -> Vec<Node>
+        ensures empty { result.items ≡ [] }
+        ensures brackets { self.new.brackets ≡ self.old.brackets }
+        ensures begun { self.new.begun ≡ self.old.begun }
+    {
+        match self.spare.pop() {
+            Some(mut list) => {
+                list.clear();
+                list
+            }
+            None => Vec::new(self.heap),
+        }
+    }
+
+    // The nodes that were gathered in a list, in one of just their number.
+    fn exact_list(&mut self, mut gathered: Vec<Node>) -> Result<Vec<Node>, NoMemory>
+        ensures nodes { IfOk result (λ v. v.items ≡ gathered.items) }
+        ensures brackets { self.new.brackets ≡ self.old.brackets }
+        ensures begun { self.new.begun ≡ self.old.begun }
+    {
+        let mut list = with_room(self.heap, gathered.len())?;
+        // there is room for them
+        let _ = list.append(&mut gathered);
+        push(&mut self.spare, gathered)?;
+        Ok(list)
     }
 
     // The end of the innermost bracket, by a byte at `end`.
@@ -108,6 +140,7 @@ impl Builder {
         let Some(Open { at, symbol, parts }) = self.brackets.pop() else {
             return Err(TextFault::Broken { at: end });
         };
+        let parts = self.exact_list(parts)?;
         self.put(Node::Bracket { at, symbol, parts })
     }
 

@@ -54,10 +54,14 @@ impl Run {
         match self {
             Run::Blanks => class_of(b) == ByteClass::Blank,
             Run::Quoted => !matches!(class_of(b), ByteClass::Quote | ByteClass::Backslash),
-            Run::Symbol => matches!(
-                class_of(b),
-                ByteClass::Digit | ByteClass::Backslash | ByteClass::Other
-            ),
+            // most bytes of a symbol stand behind the brackets: one test tells
+            Run::Symbol => {
+                b > b')'
+                    || matches!(
+                        class_of(b),
+                        ByteClass::Digit | ByteClass::Backslash | ByteClass::Other
+                    )
+            }
         }
     }
 

@@ -1,7 +1,7 @@
 // The nodes of a text's tree, each with the place of its first byte.
 use crate::part::Part;
 
-#[derive(Drop)]
+#[derive(Clone, Drop)]
 pub enum Node {
     // the place of the first quote, and the bytes between the quotes
     Quoted {

@@ -119,7 +119,7 @@ terms-term-requires t c = (omega (arith, size_at c.args.parts.now c.loop-part.pa
 
 pub terms-returns-in_err-term : goal.terms-returns-in_err-term
 terms-returns-in_err-term t c =
-    let p = err_from_is_err_and c.from_residual.result c.from_residual.ensures.1 in
+    let p = err_from_is_err_and c.from_residual-in_err-term.result c.from_residual-in_err-term.ensures.1 in
     rw (p.1, p.2) (λ n. rest_refused (term c.args.self.text.now) (terms c.args.self.text.now) term_of terms_of c.args.parts.now (by_term c.args.self.text.now) c.loop-part.part-index c.loop-part.terms.items c.loop-part.invariant c.part-item.result c.loop-part-test.true c.in_err-term.field-0.0 (ap (λ i. term c.args.self.text.now (tree_of i)) (sym c.part-item.is) ∙ c.in_err-term.ensures n))
 
 pub terms-loop-part-preserved : goal.terms-loop-part-preserved

@@ -9,7 +9,7 @@ use Rattle.syntax.proofs.source.Source.names.Goals as goal
 pub returns-in_err-name : goal.returns-in_err-name
 unfolding names
 returns-in_err-name c =
-    let p = err_from_is_err_and c.from_residual.result c.from_residual.ensures.1 in
+    let p = err_from_is_err_and c.from_residual-in_err-name.result c.from_residual-in_err-name.ensures.1 in
     rw (p.1, p.2) (λ n. rest_refused (a_name c.args.self.text.now) (each (a_name c.args.self.text.now)) (λ n. n) (map (λ n. n)) c.args.parts.now (by_each (a_name c.args.self.text.now) (λ n. n)) c.loop-part.part-index c.loop-part.names.items c.loop-part.invariant c.part-item.result c.loop-part-test.true c.in_err-name.field-0.0 (ap (λ i. a_name c.args.self.text.now (tree_of i)) (sym c.part-item.is) ∙ sym c.in_err-name.ensures))
 
 pub loop-part-preserved : goal.loop-part-preserved
