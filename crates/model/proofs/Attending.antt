@@ -16,6 +16,7 @@ use Rattle.model.specs.CountLaw.{CountsKept}
 use Rattle.model.specs.SessionLaw.{HoldsLife}
 use Rattle.model.proofs.Tests.{and_right}
 use Rattle.model.proofs.Lists.{every_join, every_map}
+use Rattle.model.proofs.Deduction.{derives_map}
 use Rattle.model.proofs.Deducible.{deducible_map}
 use Rattle.model.proofs.Machine.{eqb_iff}
 use Rattle.model.proofs.Exec.{exec, result_of, attempt_exec}
@@ -72,6 +73,9 @@ module _ (S : Specification) (c : Tree → ℕ) where
         says = λ A kept. every_join _ v.said _
             (every_map _ _ (λ p d. deducible_map A P (ValueOf v.holdings) _ (value_more v.holdings (takes (message S) P k.duty) vs (names k.duty a.role k.role') ns) d) v.said (a.says A kept))
             (z.2 A (counted A kept).0.acts);
+        says_derive = every_join _ v.said _
+            (every_map _ _ (λ p d. derives_map P (ValueOf v.holdings) _ (value_more v.holdings (takes (message S) P k.duty) vs (names k.duty a.role k.role') ns) d) v.said a.says_derive)
+            z.5;
         knows = refl;
         there = inl (is_role r v a st k);
         living = living_on S r a.role k.role' vs ns M'.inputs M'.numbers v.holdings k.duty k.later

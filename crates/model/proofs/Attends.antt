@@ -1,6 +1,7 @@
 -- How each run of a session stands: its role's state and the duties left.
 use Rattle.std.proofs.Common.{◌≡◌, ℕ, ◌<◌, Bool, true, false, cond, T, ltb, ◌⊎◌, List, [], ◌∷◌, length, refl, inl, inr}
 use Rattle.model.specs.Lists.{Every}
+use Rattle.model.specs.Deduction.{Derives}
 use Rattle.model.specs.Roles.{Role}
 use Rattle.model.specs.Runs.{Memory, empty}
 use Rattle.model.specs.Holdings.{ValueOf}
@@ -25,6 +26,7 @@ pub record Attends (S : Specification) (r : ℕ) (v : View) : Type 0 where
   pub stands : Stands (S.party r) role sheet v.memory v.holdings
   pub counts : (A : ℕ → ℕ) → CountsKept A S → Counts A role × Every (DutyCounted A (S.party r) (message S)) left
   pub says : (A : ℕ → ℕ) → CountsKept A S → Every (λ p. Deducible A (S.party r) (ValueOf v.holdings) p.1) v.said
+  pub says_derive : Every (λ p. Derives (S.party r) (ValueOf v.holdings) p.1) v.said
   pub knows : v.known ≡ role.known
   pub there : (r < S.roles) ⊎ (left ≡ [])
   pub living : Living S r role left v.holdings
@@ -51,6 +53,7 @@ new_attend S acc space r =
       stands = stands_nobody (S.party r);
       counts = λ A kept. (nobody_counts A, duties_counted A S kept (S.party r) r);
       says = λ A kept. tt;
+      says_derive = tt;
       knows = refl;
       there = role_or_nothing S r;
       living = inl (refl, refl, refl);

@@ -4,7 +4,7 @@ use mathlib.Core.Option.{some}
 use mathlib.Core.Path.{subst⁻¹}
 use Rattle.model.specs.Lists.{Every}
 use Rattle.model.specs.Trees.{Tree}
-use Rattle.model.specs.Deduction.{Party}
+use Rattle.model.specs.Deduction.{Party, Derives}
 use Rattle.model.specs.Roles.{Role, Said, spoke, failed, said}
 use Rattle.model.specs.Entries.{AtRest}
 use Rattle.model.specs.Lives.{spoken}
@@ -15,7 +15,7 @@ use Rattle.model.specs.Programs.{next_role, line, takes, names, says_line, turn_
 use Rattle.model.specs.Sessions.{to_say, told}
 use Rattle.model.specs.CountLaw.{Counted}
 use Rattle.model.specs.Deducible.{Deducible}
-use Rattle.model.proofs.Machine.{some_inj, no_some}
+use Rattle.model.proofs.Machine.{some_inj, no_some, All}
 use Rattle.model.proofs.Exec.{exec}
 use Rattle.model.proofs.Feeding.{Fed, fed_map, fed_enough}
 use Rattle.model.proofs.After.{After}
@@ -34,13 +34,15 @@ module _ (term : ℕ → Tree) (P : Party) (c : Tree → ℕ) where
       → (M' : Machine) → exec c (line s s') M ≡ ran M'
       → (let h' = add h (takes term P d) M.inputs (names d s s') M.numbers in
       (Γ' : Memory) × Stands P s' Γ' M'.mem h' × ((A : ℕ → ℕ) → Every (Counted A) s'.acts → Every (λ p. Deducible A P (ValueOf h') p.1) (told (turn_of d) (answer (line s s') M'.mem)))
-      × Fed (λ t v. Unit {0}) (takes term P d) M.inputs M'.inputs × Fed (λ a k. Unit {0}) (names d s s') M.numbers M'.numbers)
+      × Fed (λ t v. Unit {0}) (takes term P d) M.inputs M'.inputs × Fed (λ a k. Unit {0}) (names d s s') M.numbers M'.numbers
+      × Every (λ p. Derives P (ValueOf h') p.1) (told (turn_of d) (answer (line s s') M'.mem)))
   duty_done d s s' Γ h M st f e M' x = (
     u.0.sheet,
     now,
-    said_now d s s' M' u.0.sheet h' now u.1,
+    λ A q. said_now (Deducible A P (ValueOf h')) d s s' M' u.0.sheet h' now u.1 (now.values A q),
     fed_map _ (λ t v. Unit {0}) (λ t v i. tt) (takes term P d) M.inputs M'.inputs done.fed,
     fed_map _ (λ a k. Unit {0}) (λ a k i. tt) (names d s s') M.numbers M'.numbers done.numbered,
+    said_now (Derives P (ValueOf h')) d s s' M' u.0.sheet h' now u.1 now.values_derive,
   )
     where
       h' : Stock
@@ -55,15 +57,15 @@ module _ (term : ℕ → Tree) (P : Party) (c : Tree → ℕ) where
       now : Stands P s' u.0.sheet M'.mem h'
       now = stands_line P c s s' Γ (takes term P d) (names d s s') u.0 M h st M' (subst (λ l. exec c l M ≡ ran M') (line_is P u.0.grew) x)
 
-      said_now : (d : Duty) (s s' : Role) (M' : Machine) (Δ : Memory) (h' : Stock) → Stands P s' Δ M'.mem h' → Told term d s s' Δ
-          → (A : ℕ → ℕ) → Every (Counted A) s'.acts → Every (λ p. Deducible A P (ValueOf h') p.1) (told (turn_of d) (answer (line s s') M'.mem))
-      said_now (to_start ts) s s' M' Δ h' k t A q = tt
-      said_now (listen l) s s' M' Δ h' k t A q = tt
-      said_now (speak l mk) s s' M' Δ h' k t A q =
+      said_now : (D : Tree → Type 0) (d : Duty) (s s' : Role) (M' : Machine) (Δ : Memory) (h' : Stock) → Stands P s' Δ M'.mem h' → Told term d s s' Δ
+          → All (λ r v. D v) M'.mem → Every (λ p. D p.1) (told (turn_of d) (answer (line s s') M'.mem))
+      said_now D (to_start ts) s s' M' Δ h' k t f = tt
+      said_now D (listen l) s s' M' Δ h' k t f = tt
+      said_now D (speak l mk) s s' M' Δ h' k t f =
           let y = k.filled t.0 (term l) t.3 in
-          subst⁻¹ (λ o. Every (λ p. Deducible A P (ValueOf h') p.1) (told (says_line l) o))
+          subst⁻¹ (λ o. Every (λ p. D p.1) (told (says_line l) o))
           (ap (λ xs. answer xs M'.mem) t.2 ∙ answer_last t.1 t.0 M'.mem y.0 y.1)
-          (k.values A q t.0 y.0 y.1, tt)
+          (f t.0 y.0 y.1, tt)
 
   abbrev pub TakesIn : Duty → Type 0
   TakesIn (to_start ts) = Unit {0}

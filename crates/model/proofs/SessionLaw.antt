@@ -13,6 +13,8 @@ session_law S acc c space es =
         holds = λ r. attends_life S r (s.views r) (all r);
         in_registers = λ A kept r q v. (all r).stands.values A ((all r).counts A kept).0.acts q v;
         in_says = λ A kept r. (all r).says A kept;
+        registers_derive = λ r q v. (all r).stands.values_derive q v;
+        says_derive = λ r. (all r).says_derive;
       };
       decided = decides S c s all;
       chosen = λ ρ. fair_goes S c ρ acc es space;

@@ -23,7 +23,7 @@ use Rattle.model.proofs.Sheets.{Plan, done, plan_append, plan_keeps, Facts, fact
 use Rattle.model.proofs.Feeding.{Fed, fed_firsts, fed_pairs, pairs_fed}
 use Rattle.model.proofs.After.{Holds, Any, After, plan_after}
 use Rattle.model.proofs.Agree.{plan_derives, Agrees, plan_agrees}
-use Rattle.model.proofs.Values.{plan_values}
+use Rattle.model.proofs.Values.{closed_deducible, AnyAction, any_actions, closed_derives, plan_values}
 use Rattle.model.proofs.Unbroken.{Unbroken, plan_unbroken, Whole, plan_whole}
 use Rattle.model.proofs.Grounds.{Good}
 use Rattle.model.proofs.Filling.{Went}
@@ -41,6 +41,7 @@ pub record Stands (P : Party) (s : Role) (Γ m : Memory) (h : Stock) : Type 0 wh
   pub facts : Facts m s.acts
   pub derives : All (λ r t. Derives P (TermOf h) t) Γ
   pub values : (A : ℕ → ℕ) → Every (Counted A) s.acts → All (λ r v. Deducible A P (ValueOf h) v) m
+  pub values_derive : All (λ r v. Derives P (ValueOf h) v) m
   pub holds : Every (λ p. Holds Γ m p.0 p.1) h.taken
   pub names : Every (λ p. Holds Γ m (leaf p.0) (leaf p.1)) h.made
   pub agrees : (k : Stock) (R : Tree → Tree) → Reading P (TermOf k) R → ((t : Tree) → TermOf h t → TermOf k t) → ReadsAs R h → Rel (λ t v. R t ≡ v) Γ m
@@ -56,6 +57,7 @@ module _ (P : Party) where
         facts = tt;
         derives = λ r t e. absurd (no_some e);
         values = λ A q r v e. absurd (no_some e);
+        values_derive = λ r v e. absurd (no_some e);
         holds = tt;
         names = tt;
         agrees = λ H R q f a r t e. absurd (no_some e);
@@ -142,10 +144,14 @@ module _ (P : Party) where
               (λ r t x. derives_map P (TermOf h) (TermOf more_held) (term_more h is M.inputs ns M.numbers) (st.derives r t x));
           values = λ A q.
               let z = subst (Every (Counted A)) w.grew.adds q in
-              plan_values A P (ValueOf more_held) c w.grew.plan (every_right (Counted A) s.acts w.grew.line z) M M' e st.good.bound st.below st.filled
+              plan_values P (ValueOf more_held) (Deducible A P (ValueOf more_held)) (Counted A) (closed_deducible A P (ValueOf more_held)) c w.grew.plan (every_right (Counted A) s.acts w.grew.line z) M M' e st.good.bound st.below st.filled
               (values_in h is M.inputs ns M.numbers M'.inputs M'.numbers _ _ after.fed after.numbered)
               (numbers_in h is M.inputs ns M.numbers M'.inputs M'.numbers _ _ after.fed after.numbered)
               (λ r t x. deducible_map A P (ValueOf h) (ValueOf more_held) (value_more h is M.inputs ns M.numbers) (st.values A (every_left (Counted A) s.acts w.grew.line z) r t x));
+          values_derive = plan_values P (ValueOf more_held) (Derives P (ValueOf more_held)) AnyAction (closed_derives P (ValueOf more_held)) c w.grew.plan (any_actions w.grew.line) M M' e st.good.bound st.below st.filled
+              (values_in h is M.inputs ns M.numbers M'.inputs M'.numbers _ _ after.fed after.numbered)
+              (numbers_in h is M.inputs ns M.numbers M'.inputs M'.numbers _ _ after.fed after.numbered)
+              (λ r t x. derives_map P (ValueOf h) (ValueOf more_held) (value_more h is M.inputs ns M.numbers) (st.values_derive r t x));
           holds = every_join _ h.taken (zip is M.inputs)
               (every_map _ (λ p. Holds w.sheet M'.mem p.0 p.1) (λ p a. (a.0, keep a.0 p.0 a.1, after.keeps a.0 p.1 a.2)) h.taken st.holds)
               (fed_pairs _ is M.inputs M'.inputs after.fed);
