@@ -45,7 +45,9 @@ fn run(rt: &HostRuntime) -> anyhow::Result<()> {
 
 fn try_case(rt: &HostRuntime, name: &str) -> anyhow::Result<Outcome> {
     let text = fs::read(rt, format!(in rt.alloc(); "{name}.evl")?)?;
-    let answer = Answer::to(rt.alloc(), &text, Limits::standard())?;
+    let Ok(answer) = Answer::to(rt.alloc(), &text, Limits::standard()) else {
+        return Err(anyhow!("out of memory"));
+    };
     match answer.refusal {
         Some(refusal) => Ok(Outcome::Refused(refusal)),
         None => compare(rt, name, &answer),

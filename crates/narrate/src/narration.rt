@@ -1,6 +1,7 @@
 // From a text that is read to its answer, written.
 ghost use Rattle.narrate.specs.Narrations.{Narrates};
 
+use anyhow::anyhow;
 use roles::answer::{Answer, DECISIVE};
 use std::alloc::Global;
 use std::io::{Read, Write};
@@ -16,7 +17,9 @@ pub(crate) fn narrate<R: Read + Drop, W: Write>(
 {
     let mut text = Vec::new(heap);
     input.take(DECISIVE as u64).read_to_end(&mut text)?;
-    let answer = Answer::to(heap, &text, Limits::standard())?;
+    let Ok(answer) = Answer::to(heap, &text, Limits::standard()) else {
+        return Err(anyhow!("out of memory"));
+    };
     output.write_all(answer.text.as_bytes())?;
     Ok(answer.refusal.is_none())
 }
