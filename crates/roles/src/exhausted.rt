@@ -36,8 +36,8 @@ pub(crate) fn add_rows(
 ) -> Result<(), Exhausted>
     ensures { OnOk result (rows.new.items ≡ rows.old.items ++ map (row line) (drop (length rows.old.items) actions.now)) }
 {
-    let done = rows.len();
-    let added = actions.iter().skip(done);
+    let done = rows.len().min(actions.len());
+    let added = actions[done..].iter();
     match rows.extend(added.map(|action| Row {
         line,
         action: *action,
