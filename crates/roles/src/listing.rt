@@ -12,8 +12,9 @@ use std::fmt::Write;
 use terms::declarations::Function;
 
 impl Translation {
-    // A line with the role's name, then its rows, for each role. There is an error only for want of memory.
-    pub(crate) fn listing(&self, heap: Global, text: &[u8]) -> Result<String, fmt::Error>
+    /// The programs in print: a line with the role's name, then its rows, for each role. Names are parts of the text. There is an error only
+    /// for want of memory.
+    pub fn listing(&self, heap: Global, text: &[u8]) -> Result<String, fmt::Error>
         ensures { IfOk result (λ s. string_bytes s ≡ listing text.now self.now) }
     {
         let Ok(names) = function_names(heap, text, self.declarations.functions()) else {
