@@ -124,6 +124,13 @@ impl Declarations {
         &self.starts
     }
 
+    /// The rights to apply secret functions, in the order of declaration.
+    pub fn rights(&self) -> &[Right]
+        ensures { result.now ≡ (scope_of self.now).rights }
+    {
+        &self.rights
+    }
+
     /// The terms by number.
     pub fn terms(&self) -> &TermTable
         ensures { result.now ≡ table_of self.now }
