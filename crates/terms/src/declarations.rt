@@ -38,7 +38,7 @@ pub struct Declared {
 }
 
 /// A function. Its name stands here too, since a program's text goes by the number of a function.
-#[derive(Drop)]
+#[derive(Clone, Drop)]
 pub struct Function {
     /// the bytes of its name, as a part of the text
     pub name: Part,
