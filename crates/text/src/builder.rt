@@ -34,8 +34,8 @@ pub(crate) struct Builder {
     pub heap: Global,
     // the innermost bracket last
     pub brackets: Vec<Open>,
-    // lists of brackets that were closed, for the parts of brackets to come: parts are gathered there, and go into lists of just
-    // their number when the bracket closes
+    // Lists of brackets that were closed, for brackets to come. Parts are gathered in one of these, and move into a list of just
+    // their number when the bracket closes.
     pub spare: Vec<Vec<Node>>,
     // how many nodes have begun
     pub begun: usize,

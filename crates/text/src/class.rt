@@ -54,7 +54,7 @@ impl Run {
         match self {
             Run::Blanks => class_of(b) == ByteClass::Blank,
             Run::Quoted => !matches!(class_of(b), ByteClass::Quote | ByteClass::Backslash),
-            // most bytes of a symbol stand behind the brackets: one test tells
+            // every byte above `)` may stand in a symbol, and most bytes of one are such: one test tells
             Run::Symbol => {
                 b > b')'
                     || matches!(
