@@ -103,7 +103,7 @@ impl Builder {
         push(&mut self.brackets, Open { at, symbol, parts })
     }
 
-    // A list without nodes, to gather some in.
+    // A list without nodes, to gather some in. Spare lists are empty already; clearing one says so without an invariant.
     fn empty_list(&mut self) -> Vec<Node>
         ensures empty { result.items ≡ [] }
         ensures brackets { self.new.brackets ≡ self.old.brackets }
