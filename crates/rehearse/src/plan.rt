@@ -5,7 +5,7 @@ use anyhow::anyhow;
 use roles::translation::Translation;
 use std::alloc::{AllocError, Global};
 use syntax::source::Source;
-use syntax::spec::Line;
+use syntax::spec::{Line, Spec, Term};
 use terms::declarations::Function;
 use text::reading::read_text;
 
@@ -70,7 +70,7 @@ impl Plan {
 fn count_parameters(heap: Global, functions: &[Function]) -> Result<Vec<u8>, AllocError> {
     let mut counts = Vec::new(heap);
     for function in functions {
-        counts.push(function.parameters.len().min(255) as u8)?;
+        counts.push(function.arity().min(255) as u8)?;
     }
     Ok(counts)
 }
@@ -92,15 +92,23 @@ fn read_exchanges(
     };
     let mut exchanges = Vec::new(heap);
     for line in &spec.lines {
-        exchanges.push(exchange_of(text, translation, line, made.as_slice()))?;
+        exchanges.push(exchange_of(text, translation, &spec, *line, made.as_slice()))?;
     }
     Ok(exchanges)
 }
 
-fn exchange_of(text: &[u8], translation: &Translation, line: &Line, made: &[u8]) -> Exchange {
+fn exchange_of(
+    text: &[u8],
+    translation: &Translation,
+    spec: &Spec,
+    line: Line,
+    made: &[u8],
+) -> Exchange {
+    let nothing = Term::nothing();
+    let message = spec.term_or(line.message, &nothing);
     Exchange {
         sender: place_of(text, translation, line.sender),
         receiver: place_of(text, translation, line.receiver),
-        fresh: is_named(text, &translation.declarations, &line.message, made),
+        fresh: is_named(text, &translation.declarations, message, made),
     }
 }

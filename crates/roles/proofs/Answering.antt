@@ -18,6 +18,7 @@ use Rattle.terms.specs.Declaring.{bind, declared}
 use Rattle.terms.specs.Scope.{Scope}
 use Rattle.terms.specs.declared.table.TermTable.{TermTable}
 use Rattle.syntax.specs.declared.spec.Line.{Line}
+use Rattle.syntax.specs.declared.spec.Spec.{Spec}
 use Rattle.syntax.specs.Views.{line_of}
 use Rattle.roles.specs.declared.role.Role.{Role}
 use Rattle.roles.specs.Players.{player_of}
@@ -88,6 +89,6 @@ module _ (limits : Limits) (bytes : List ℕ) where
           all_done T w = from_scope ∙ ap (refused_by Lines) (sym is ∙ w)
 
 -- the lines of a specification, from a translation with no roles
-pub at_start : (limits : Limits) (bytes : List ℕ) (U : Scope) (t : TermTable) {ls ms : List Line} {rs : List Role} → ls ≡ ms → rs ≡ []
-    → lines limits bytes [] (map line_of ls) (record { scope = U; players = map (player_of t) rs }) ≡ lines limits bytes [] (map line_of ms) (record { scope = U; players = [] })
-at_start limits bytes U t e f = ap₂ (λ ls rs. lines limits bytes [] (map line_of ls) (record { scope = U; players = map (player_of t) rs })) e f
+pub at_start : (limits : Limits) (bytes : List ℕ) (U : Scope) (t : TermTable) (s : Spec) {ls ms : List Line} {rs : List Role} → ls ≡ ms → rs ≡ []
+    → lines limits bytes [] (map (line_of s) ls) (record { scope = U; players = map (player_of t) rs }) ≡ lines limits bytes [] (map (line_of s) ms) (record { scope = U; players = [] })
+at_start limits bytes U t s e f = ap₂ (λ ls rs. lines limits bytes [] (map (line_of s) ls) (record { scope = U; players = map (player_of t) rs })) e f

@@ -9,9 +9,10 @@ use Rattle.text.specs.declared.fault.TextFault.TheVariants as texts
 use Rattle.program.specs.declared.action.Row.{Row}
 use Rattle.program.specs.Printed.{written, row_text, step_text}
 use Rattle.terms.specs.declared.declarations.Function.{Function}
+use Rattle.terms.specs.declared.declarations.ValueType.{ValueType}
 use Rattle.terms.specs.declared.limits.Limits.{Limits}
 use Rattle.terms.specs.declared.table.TermTable.{TermTable}
-use Rattle.terms.specs.Meanings.{functions_of, signature_of}
+use Rattle.terms.specs.Meanings.{functions_of, types_of, signature_in}
 use Rattle.terms.specs.Scope.{Signature, bytes}
 use Rattle.terms.specs.Declaring.{bind, declared}
 use Rattle.syntax.specs.Shape.{shape}
@@ -29,9 +30,9 @@ use Rattle.roles.specs.Staging.{stage_of}
 use Rattle.roles.specs.Translating.{translation}
 
 module _ (text : List ℕ) where
-  names_are : (fs : List Function) → function_names text fs ≡ map (λ (f : Signature). written (bytes text f.name)) (map signature_of fs)
-  names_are [] = refl
-  names_are (f ∷ fs) = ap (λ ns. written (bytes text f.name) ∷ ns) (names_are fs)
+  names_are : (ws : List ValueType) (fs : List Function) → function_names text fs ≡ map (λ (f : Signature). written (bytes text f.name)) (map (signature_in ws) fs)
+  names_are ws [] = refl
+  names_are ws (f ∷ fs) = ap (λ ns. written (bytes text f.name) ∷ ns) (names_are ws fs)
 
   rows_are : (names : List (List ℕ)) (rs : List Row) → flat_map (row_text names) rs ≡ flat_map (step_text names) (map lined rs)
   rows_are names [] = refl
@@ -47,7 +48,7 @@ module _ (text : List ℕ) where
   listing_is : (T : Translation) → listing text T ≡ programs_text text (stage_of T)
   listing_is T =
       roles_are (function_names text (functions_of T.declarations)) T.declarations.terms (vec_items T.roles)
-      ∙ ap (λ names. flat_map (program_text text names) (map (player_of T.declarations.terms) (vec_items T.roles))) (names_are (functions_of T.declarations))
+      ∙ ap (λ names. flat_map (program_text text names) (map (player_of T.declarations.terms) (vec_items T.roles))) (names_are (types_of T.declarations) (functions_of T.declarations))
 
 module _ (limits : Limits) (text : List ℕ) where
   pub programs_answered : (T : Translation) (a : Answer) → translation limits text ≡ Ok (stage_of T) → string_bytes a.text ≡ listing text T → a.refusal ≡ None → Answered limits text a

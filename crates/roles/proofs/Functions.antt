@@ -3,7 +3,8 @@ use Rattle.std.proofs.Common.{◌≡◌, ℕ, ◌+◌, ◌≤◌, Bool, List, []
 use Rattle.std.proofs.lemmas.List.{append-nil, at_drop_all}
 use Rattle.terms.specs.declared.declarations.Function as declared
 use Rattle.terms.specs.declared.declarations.Right.{Right}
-use Rattle.terms.specs.Meanings.{signature_of}
+use Rattle.terms.specs.declared.declarations.ValueType.{ValueType}
+use Rattle.terms.specs.Meanings.{signature_in}
 use Rattle.terms.specs.Starting.{has_right}
 use Rattle.roles.specs.declared.party.Function.{Function}
 use Rattle.roles.specs.Starting.{functions_from}
@@ -17,9 +18,9 @@ rows_from n rights f [] = []
 rows_from n rights f (x ∷ xs) = party_function x (has_right n f rights) ∷ rows_from n rights (f + 1) xs
 
 module _ (n : ℕ) (rights : List Right) where
-  pub rows_same : (f : ℕ) (xs : List declared.Function) → rows_from n rights f xs ≡ functions_from n rights f (map signature_of xs)
-  rows_same f [] = refl
-  rows_same f (x ∷ xs) = ap (λ z. party_function x (has_right n f rights) ∷ z) (rows_same (f + 1) xs)
+  pub rows_same : (ws : List ValueType) (f : ℕ) (xs : List declared.Function) → rows_from n rights f xs ≡ functions_from n rights f (map (signature_in ws) xs)
+  rows_same ws f [] = refl
+  rows_same ws f (x ∷ xs) = ap (λ z. party_function x (has_right n f rights) ∷ z) (rows_same ws (f + 1) xs)
 
   module _ (xs : List declared.Function) (i : ℕ) (ys all : List Function) (e : ys ++ rows_from n rights i (drop i xs) ≡ all) where
     pub rows_end : length xs ≤ i → ys ≡ all

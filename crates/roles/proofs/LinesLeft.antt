@@ -2,9 +2,10 @@
 use Rattle.std.proofs.Common.{◌≡◌, ℕ, suc, ◌+◌, ◌<◌, cond, ◌||◌, List, [], ◌∷◌, ◌++◌, map, length, get_or, take, drop, Ok, Err, Result, sym, refl, ap, ◌∙◌, subst, arith}
 use mathlib.Core.Path.{subst⁻¹}
 use Rattle.std.specs.List.{list_any}
-use Rattle.std.proofs.lemmas.List.{map_more, length-map, length-take-le}
+use Rattle.std.proofs.lemmas.List.{map_more, length-map, length-take-le, get_or_default}
 use Rattle.syntax.specs.declared.spec.Label.{Label}
 use Rattle.syntax.specs.declared.spec.Line.{Line}
+use Rattle.syntax.specs.declared.spec.Spec.{Spec}
 use Rattle.syntax.specs.Places.{label_place}
 use Rattle.syntax.specs.Specs.{Lined}
 use Rattle.syntax.specs.Views.{line_of}
@@ -47,15 +48,21 @@ module _ (limits : Limits) (text : List ℕ) where
   abbrev pub LeftLines : List Lined → Translation → Translation → List Label → List Lined → Type 0
   LeftLines all old T earlier xs = Left (lines limits text [] all (stage_of old)) T earlier xs
 
-  module _ (all : Result Stage LineFault) (T : Translation) (ls : List Line) (i : ℕ) (x : Line) (h : i < length ls) (e : x ≡ get_or ls i x) (g : Left all T (labels (take i ls)) (map line_of (drop i ls))) where
-    abbrev others : Stage → Result Stage LineFault
-    others = lines limits text (labels (take i ls) ++ (x.label ∷ [])) (map line_of (drop (i + 1) ls))
+  module _ (spec : Spec) (all : Result Stage LineFault) (T : Translation) (ls : List Line) (i : ℕ) (other : Line) (h : i < length ls) (g : Left all T (labels (take i ls)) (map (line_of spec) (drop i ls))) where
+    abbrev x : Line
+    x = get_or ls i other
 
-    next : Left all T (labels (take i ls)) (line_of x ∷ map line_of (drop (i + 1) ls))
-    next = subst (Left all T (labels (take i ls))) (left_at line_of ls i x h e) g
+    e : x ≡ get_or ls i x
+    e = get_or_default ls i other x h
+
+    abbrev others : Stage → Result Stage LineFault
+    others = lines limits text (labels (take i ls) ++ (x.label ∷ [])) (map (line_of spec) (drop (i + 1) ls))
+
+    next : Left all T (labels (take i ls)) (line_of spec x ∷ map (line_of spec) (drop (i + 1) ls))
+    next = subst (Left all T (labels (take i ls))) (left_at (line_of spec) ls i x h e) g
 
     abbrev this : ℕ → Result Stage LineFault
-    this number = line limits text number (line_of x) (stage_of T)
+    this number = line limits text number (line_of spec x) (stage_of T)
 
     from_label : all ≡ bind (new_label text (take i ls) x.label) (λ _. bind (this (i + 1)) others)
     from_label =
@@ -75,5 +82,5 @@ module _ (limits : Limits) (text : List ℕ) where
       pub line_refused : (f : LineFault) → Step (Err f) → Refused all f
       line_refused f k = refused_path f from_line (refused_through (this (i + 1)) others f k)
 
-      pub line_done : Step (Ok tt) → Left all T' (labels (take (i + 1) ls)) (map line_of (drop (i + 1) ls))
-      line_done k = subst⁻¹ (λ bs. Left all T' bs (map line_of (drop (i + 1) ls))) (labels_to ls i x h e) (from_line ∙ ap (λ o. bind o others) k)
+      pub line_done : Step (Ok tt) → Left all T' (labels (take (i + 1) ls)) (map (line_of spec) (drop (i + 1) ls))
+      line_done k = subst⁻¹ (λ bs. Left all T' bs (map (line_of spec) (drop (i + 1) ls))) (labels_to ls i x h e) (from_line ∙ ap (λ o. bind o others) k)

@@ -26,7 +26,12 @@ pub fn translate(heap: Global, text: &[u8], limits: Limits) -> Result<Translatio
         declarations,
         roles: Vec::new(heap),
     };
-    let input = Input { heap, text, limits };
+    let input = Input {
+        heap,
+        text,
+        spec: &spec,
+        limits,
+    };
     translation.lines(input, &spec.lines)?;
     Ok(translation)
 }

@@ -10,7 +10,7 @@ use crate::line_fault::LineFault;
 use crate::role::{Role, Turn};
 use base::push;
 use std::alloc::Global;
-use syntax::spec::{Line, Name, Term};
+use syntax::spec::{Line, Name, Spec, Term};
 use terms::declarations::Declarations;
 use terms::limits::Limits;
 
@@ -19,6 +19,7 @@ use terms::limits::Limits;
 pub(crate) struct Input<'a> {
     pub(crate) heap: Global,
     pub(crate) text: &'a [u8],
+    pub(crate) spec: &'a Spec,
     pub(crate) limits: Limits,
 }
 
@@ -33,19 +34,19 @@ pub struct Translation {
 impl Translation {
     pub(crate) fn lines(&mut self, input: Input, lines: &[Line]) -> Result<(), LineFault>
         requires { AllFit self.old.declarations.terms self.old.roles.items }
-        ensures { Comes (stages.lines input.entry.limits input.entry.text.now [] (map line_of lines.now) (stage_of self.old)) self.new result }
+        ensures { Comes (stages.lines input.entry.limits input.entry.text.now [] (map (line_of input.entry.spec.now) lines.now) (stage_of self.old)) self.new result }
     {
         for (index, line) in lines.iter().enumerate() {
             fresh_label(input.text, &lines[..index], line.label)?;
-            self.line(input, index + 1, line)?;
+            self.line(input, index + 1, *line)?;
         }
         Ok(())
     }
 
-    fn line(&mut self, input: Input, number: usize, line: &Line) -> Result<(), LineFault>
+    fn line(&mut self, input: Input, number: usize, line: Line) -> Result<(), LineFault>
         requires { AllFit self.old.declarations.terms self.old.roles.items }
         ensures keeps { AllKeep self.new.declarations.terms self.new.roles.items result }
-        ensures comes { Comes (stages.line input.entry.limits input.entry.text.now number (line_of line.now) (stage_of self.old)) self.new result }
+        ensures comes { Comes (stages.line input.entry.limits input.entry.text.now number (line_of input.entry.spec.now line) (stage_of self.old)) self.new result }
     {
         let sender = self.declarations.principal(input.text, line.sender)?;
         let sender_place = self.role(input, sender, line.sender)?;
@@ -56,7 +57,9 @@ impl Translation {
             });
         }
         let receiver_place = self.role(input, receiver, line.receiver)?;
-        self.message(input, number, &line.message, sender_place, receiver_place)
+        let nothing = Term::nothing();
+        let message = input.spec.term_or(line.message, &nothing);
+        self.message(input, number, message, sender_place, receiver_place)
     }
 
     // The role of this name, by its place: sender and receiver are changed in turn, and two `&mut` into one list are not to be had.

@@ -11,9 +11,12 @@ use Rattle.model.proofs.Lists.{every_some}
 use Rattle.program.specs.declared.action.Row.{Row}
 use Rattle.program.specs.Held.{passes}
 use Rattle.terms.specs.declared.declarations.Function.{Function}
+use Rattle.terms.specs.declared.declarations.ValueType.{ValueType}
 use Rattle.terms.specs.declared.limits.Limits.{Limits}
 use Rattle.terms.specs.Counts.{counts}
-use Rattle.terms.specs.Meanings.{signature_of, functions_of}
+use Rattle.terms.specs.Consistency.{Within}
+use Rattle.terms.specs.Meanings.{signature_in, parameters_in, types_of, functions_of}
+use Rattle.terms.proofs.Pushing.{arity_is}
 use Rattle.terms.specs.Scope.{Scope, Signature}
 use Rattle.terms.proofs.CountedScopes.{declared_counted}
 use Rattle.terms.proofs.Few.{declared_few}
@@ -56,9 +59,12 @@ new_refused counts roles i role l is rows same Unsound q =
 new_refused counts roles i role l is rows same (NoMemory w) q = tt
 
 -- a byte holds the count of each function
-short_counts : (fs : List Function) → Every (λ (s : Signature). length s.parameters ≤ 8) (map signature_of fs) → map short_count fs ≡ counts (map signature_of fs)
-short_counts [] h = refl
-short_counts (f ∷ fs) h = let e : short_count f ≡ length (vec_items f.parameters) = omega (arith, h.0) in ap₂ (λ (n : ℕ) (ns : List ℕ). n ∷ ns) e (short_counts fs h.1)
+short_counts : (ws : List ValueType) (fs : List Function) → Within fs (length ws) → Every (λ (s : Signature). length s.parameters ≤ 8) (map (signature_in ws) fs) → map short_count fs ≡ counts (map (signature_in ws) fs)
+short_counts ws [] w h = refl
+short_counts ws (f ∷ fs) w h =
+    let n = arity_is ws f (w 0 f (omega arith)) in
+    let e : short_count f ≡ length (parameters_in ws f) = omega (arith, h.0, n) in
+    ap₂ (λ (n : ℕ) (ns : List ℕ). n ∷ ns) e (short_counts ws fs (λ k x l. w (suc k) x (omega arith)) h.1)
 
 -- one of a list
 any : {A : Type 0} (xs : List A) (k : ℕ) → k < length xs → A
@@ -74,7 +80,7 @@ module _ (limits : Limits) (text : List ℕ) (T : Translation) (s : translation 
 
   -- the counts of the parts of a translation's functions
   pub counts_short : map short_count (functions_of T.declarations) ≡ counts_of T
-  counts_short = short_counts (functions_of T.declarations) (subst⁻¹ (Every (λ (x : Signature). length x.parameters ≤ 8)) (ap (λ (z : Scope). z.functions) (accepted_so_far text limits a.spec a.scope a.declares.scope a.spec.lines [] G a.lined).scope)
+  counts_short = short_counts (types_of T.declarations) (functions_of T.declarations) (subst (Within (functions_of T.declarations)) T.declarations.parameters.ok.0 T.declarations.within) (subst⁻¹ (Every (λ (x : Signature). length x.parameters ≤ 8)) (ap (λ (z : Scope). z.functions) (accepted_so_far text limits a.spec a.scope a.declares.scope a.spec.lines [] G a.lined).scope)
       (declared_few text limits a.declares.tree a.spec a.scope a.declares.shaped a.declares.scope))
 
   -- its programs can be held with these

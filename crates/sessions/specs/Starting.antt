@@ -10,6 +10,7 @@ use Rattle.syntax.specs.Specs as syntax
 use Rattle.terms.specs.declared.declarations.Function.{Function}
 use Rattle.terms.specs.declared.limits.Limits.{Limits}
 use Rattle.terms.specs.Counts.{count_or}
+use Rattle.terms.specs.Meanings.{arity}
 use Rattle.terms.specs.Scope.{Scope}
 use Rattle.program.specs.declared.action.Row.{Row}
 use Rattle.program.specs.Held.{passes}
@@ -30,7 +31,7 @@ use Rattle.sessions.specs.declared.fault.RunsFault.TheVariants.{Unsound, NoMemor
 
 -- how many parts a function takes, in a byte
 abbrev pub short_count : Function → ℕ
-short_count f = min (length (vec_items f.parameters)) 255
+short_count f = min (arity f) 255
 
 -- one run for each role, of its rows, before its begin, in every store
 abbrev pub IsNew : Role → Run → Type 0

@@ -19,7 +19,7 @@ pub fn counts_of(heap: Global, functions: &[Function]) -> Result<Vec<u8>, NoMemo
 {
     let mut counts = with_room(heap, functions.len())?;
     for function in functions {
-        counts.push_reserved(function.parameters.len().min(255) as u8);
+        counts.push_reserved(function.arity().min(255) as u8);
     }
     Ok(counts)
 }

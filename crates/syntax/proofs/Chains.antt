@@ -7,12 +7,13 @@ use Rattle.text.specs.Trees.{Tree, quoted, integer, bracket, Trees}
 use Rattle.syntax.specs.declared.fault.ShapeFault.{ShapeFault}
 use Rattle.syntax.specs.declared.fault.ShapeFault.TheVariants.{Misfit, NotCarried, NoName}
 use Rattle.syntax.specs.declared.source.Bracket.{Bracket as Opening}
+use Rattle.syntax.specs.declared.source.Item.TheVariants as items
 use Rattle.syntax.specs.declared.spec.Name.{Name}
 use Rattle.syntax.specs.declared.symbol.FunctionClass.{FunctionClass}
 use Rattle.syntax.specs.declared.symbol.Symbol.{Symbol}
 use Rattle.syntax.specs.declared.symbol.Symbol.TheVariants as symbols
 use Rattle.syntax.specs.Symbols.{symbol, found, carried, one_of, not_carried}
-use Rattle.syntax.specs.Seeing.{Stands, Opens, Faulty, tuple_term}
+use Rattle.syntax.specs.Seeing.{Shows, Stands, Opens, Faulty, tuple_term}
 use Rattle.syntax.specs.Specs.{Declared, value, Lined, Term, name}
 use Rattle.syntax.specs.Shape.{Shaped, and_then, bytes, short, function_of, shared_as, term, crypt_term, apply_term, spells, misfit, declaration, type_of, shared_of, knows_of, everybody_of, line, comm_of}
 use Rattle.syntax.proofs.Forms.{stands_misfit}
@@ -115,6 +116,9 @@ module _ (text : List ℕ) (t : Tree) where
       go (quoted at p) h = ap (λ b. and_then (cond b (short (record { at = at; part = p })) (Err (NoName at))) (λ k. Ok (value n k true))) h.0 ∙ ap Err (sym h.1)
       go (integer at v) h = absurd h
       go (bracket at s ts) h = fault_by text (shared_as text n) (shared_by text n) (λ at s ts y e. shared_as_by text at s ts y e n) (λ t at ts. refl) at s ts e h
+
+  pub shared_named : (n k : Name) → Shows text t (Ok (items.Name k)) → shared_as text n t ≡ and_then (short k) (λ m. Ok (value n m true))
+  shared_named n k h = ap (shared_as text n) h.0 ∙ ap (λ b. and_then (cond b (short k) (Err (NoName k.at))) (λ m. Ok (value n m true))) h.1
 
   module _ (b : Opening) (h : Stands text t b) where
     pub declaration_stands : (y : Symbol) → b.symbol ≡ y → declaration text t ≡ declared_by text t b.at (trees_of b.parts.now) y

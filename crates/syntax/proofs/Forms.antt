@@ -1,10 +1,9 @@
 -- Brackets by their symbols.
-use Rattle.std.proofs.Common.{◌≡◌, ℕ, Bool, true, false, cond, List, Some, Ok, Err, codes, Result, sym, refl, ap, ◌∙◌, rules, Vec, Global}
+use Rattle.std.proofs.Common.{◌≡◌, ℕ, Bool, true, false, cond, List, Some, Ok, Err, codes, Result, sym, refl, ap, ◌∙◌}
 use mathlib.Core.Path.{subst⁻¹}
 use Prim.Native.String.{String}
-use Rattle.text.specs.declared.node.Node.{Node, Bracket, the_lemmas}
 use Rattle.text.specs.declared.part.Part.{Part}
-use Rattle.text.specs.Nodes.{tree_of, trees_of}
+use Rattle.text.specs.Nodes.{trees_of}
 use Rattle.text.specs.Trees.{Tree, quoted, integer, bracket, Trees}
 use Rattle.syntax.specs.declared.fault.ShapeFault.{ShapeFault}
 use Rattle.syntax.specs.declared.fault.ShapeFault.TheVariants.{Misfit, NotCarried, NoName}
@@ -75,8 +74,5 @@ module _ {A : Type 0} (text : List ℕ) (word : String) (f : ℕ → Trees → S
   pub formed : (b : Opening) → Ok (opened b) ≡ form {A = ℕ × Trees} text word (λ at ts. Ok (at, ts)) t → form text word f t ≡ f b.at (trees_of b.parts.now)
   formed b h = then_form ∙ ap (λ o. and_then {A = ℕ × Trees} o (λ p. f p.0 p.1)) (sym h)
 
-pub bracket_tree : (at : ℕ) (s : Part) (v : Vec Node Global) → tree_of (Bracket at s v) ≡ bracket at s (trees_of v.items)
-bracket_tree at s v = search (rules, the_lemmas)
-
-pub bracket_faulty : (text : List ℕ) (n : Node) (at : ℕ) (s : Part) (v : Vec Node Global) → n ≡ Bracket at s v → symbol (bytes text s) ≡ symbols.NotCarried → Faulty text (tree_of n) (NotCarried at)
-bracket_faulty text n at s v e h = subst⁻¹ (λ t. Faulty text t (NotCarried at)) (ap tree_of e ∙ bracket_tree at s v) (uncarried_so (bytes text s) h, refl)
+pub bracket_faulty : (text : List ℕ) {t : Tree} (at : ℕ) (s : Part) (ts : Trees) → t ≡ bracket at s ts → symbol (bytes text s) ≡ symbols.NotCarried → Faulty text t (NotCarried at)
+bracket_faulty text at s ts e h = subst⁻¹ (λ t. Faulty text t (NotCarried at)) e (uncarried_so (bytes text s) h, refl)

@@ -1,3 +1,4 @@
+pub mod Numbers
 pub mod Chains
 pub mod Forms
 pub mod Inner

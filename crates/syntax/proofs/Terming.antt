@@ -1,6 +1,6 @@
 -- Terms by their nodes, and the sizes that fall on the way to their parts.
 use Rattle.std.proofs.Common.{◌≡◌, ℕ, zero, suc, ◌+◌, ◌<◌, ◌≤◌, Bool, true, false, cond, leb, List, [], ◌∷◌, length, get_or, Ok, Err, Vec, Box, Global, sym, refl, ap, ◌∙◌, arith, rules}
-use Rattle.text.specs.declared.node.Node.{Node}
+use Rattle.text.specs.declared.tree.Tree.{Tree as TreeValue}
 use Rattle.text.specs.Nodes.{tree_of, trees_of}
 use Rattle.text.specs.Trees.{Tree, quoted, integer, Trees, none, more, size, sizes}
 use Rattle.syntax.specs.declared.fault.ShapeFault.TheVariants.{Misfit, Limit, NoName}
@@ -19,7 +19,7 @@ pub size_bracket : (text : List ℕ) (t : Tree) (b : Opening) → Stands text t 
 unfolding size
 size_bracket text t b h = ap size h.is
 
-pub size_at : (ns : List Node) (i : ℕ) (n : Node) → i < length ns → n ≡ get_or ns i n → size (tree_of n) ≤ sizes (trees_of ns)
+pub size_at : (ns : List TreeValue) (i : ℕ) (n : TreeValue) → i < length ns → n ≡ get_or ns i n → size (tree_of n) ≤ sizes (trees_of ns)
 unfolding size
 size_at [] i n l e = absurd (omega arith)
 size_at (m ∷ ns) zero n l e = let w = ap (λ k. size (tree_of k)) e in omega arith
@@ -59,7 +59,7 @@ unfolding term
 apply_headed text at none = refl
 apply_headed text at (more f ts) = headed_then text at (λ n us. and_then (terms text us) (λ vs. Ok (apply at n vs))) f ts
 
-pub not_three : (text : List ℕ) (at : ℕ) (ns : List Node) → (length ns ≡ 3 → ⊥) → crypt_term text at (trees_of ns) ≡ Err (Misfit at)
+pub not_three : (text : List ℕ) (at : ℕ) (ns : List TreeValue) → (length ns ≡ 3 → ⊥) → crypt_term text at (trees_of ns) ≡ Err (Misfit at)
 unfolding term
 not_three text at [] h = refl
 not_three text at (a ∷ []) h = refl
@@ -67,7 +67,7 @@ not_three text at (a ∷ b ∷ []) h = refl
 not_three text at (a ∷ b ∷ c ∷ []) h = absurd (h refl)
 not_three text at (a ∷ b ∷ c ∷ d ∷ ns) h = refl
 
-pub crypt_so : (text : List ℕ) (at : ℕ) (ns : List Node) (a b c : Node) → length ns ≡ 3 → a ≡ get_or ns 0 a → b ≡ get_or ns 1 b → c ≡ get_or ns 2 c
+pub crypt_so : (text : List ℕ) (at : ℕ) (ns : List TreeValue) (a b c : TreeValue) → length ns ≡ 3 → a ≡ get_or ns 0 a → b ≡ get_or ns 1 b → c ≡ get_or ns 2 c
     → crypt_term text at (trees_of ns) ≡ and_then (term text (tree_of a)) (λ x. and_then (term text (tree_of b)) (λ y. and_then (vanilla text (tree_of c)) (λ _. Ok (crypt at x y))))
 unfolding term
 crypt_so text at [] a b c l p q r = absurd (omega arith)

@@ -1,4 +1,5 @@
 pub mod Names
+pub mod Numbers
 pub mod Places
 pub mod Refusals
 pub mod Seeing

@@ -1,5 +1,5 @@
 -- What a node shows, and what the steps of the shape's check answer.
-use Rattle.std.specs.Prelude.{◌≡◌, ℕ, Bool, true, false, List, Some, Ok, Err, codes, Result}
+use Rattle.std.specs.Prelude.{◌≡◌, ℕ, Bool, true, false, List, ◌++◌, Some, Ok, Err, codes, Result}
 use Prim.Native.String.{String}
 use Rattle.text.specs.declared.part.Part.{Part}
 use Rattle.text.specs.Nodes.{trees_of}
@@ -12,6 +12,7 @@ use Rattle.syntax.specs.declared.source.Item.{Item}
 use Rattle.syntax.specs.declared.source.Item.TheVariants as items
 use Rattle.syntax.specs.declared.spec.Name.{Name}
 use Rattle.syntax.specs.declared.spec.Spec.{Spec}
+use Rattle.syntax.specs.declared.spec.Term.{Term as TermValue}
 use Rattle.syntax.specs.declared.symbol.Symbol.{Symbol}
 use Rattle.syntax.specs.declared.symbol.Section.{Section}
 use Rattle.syntax.specs.declared.symbol.Section.TheVariants as sections
@@ -19,7 +20,7 @@ use Rattle.syntax.specs.Names.{is_name}
 use Rattle.syntax.specs.Symbols.{found, carried, one_of, not_carried, symbol}
 use Rattle.syntax.specs.Shape.{Shaped, bytes, at_most, and_then, misfit, form, a_name, terms}
 use Rattle.syntax.specs.Specs.{Term, tuple, Specification}
-use Rattle.syntax.specs.Views.{specification_of}
+use Rattle.syntax.specs.Views.{term_in, specification_of}
 
 -- A node that is refused wherever it stands.
 abbrev pub Faulty : List ℕ → Tree → ShapeFault → Type 0
@@ -89,6 +90,38 @@ Refuses f o = is_refusal f ≡ true → o ≡ Err f
 abbrev pub Gives : {A B : Type 0} → (B → A) → Shaped A → Result B ShapeFault → Type 0
 Gives view o (Ok x) = o ≡ Ok (view x)
 Gives view o (Err f) = Refuses f o
+
+-- Declarations and lines are the same, and what is named by number in the old one stands in the new one, at the same numbers.
+pub record Kept (old new : Spec) : Type 0 where
+  pub declarations : new.declarations.items ≡ old.declarations.items
+  pub lines : new.lines.items ≡ old.lines.items
+  pub more_parameters : List Name
+  pub parameters : new.parameters.items ≡ old.parameters.items ++ more_parameters
+  pub more_terms : List TermValue
+  pub terms : new.terms.items ≡ old.terms.items ++ more_terms
+
+-- The term of this number, whatever is added behind.
+abbrev pub Numbered : List TermValue → ℕ → Term → Type 0
+Numbered ts k t = (us : List TermValue) → term_in (ts ++ us) k ≡ t
+
+-- The answer, by its view over what is named by number, whatever is added behind; or its fault.
+abbrev pub Adds : {A B : Type 0} → (List Name → List TermValue → B → A) → Shaped A → Spec → Spec → Result B ShapeFault → Type 0
+Adds view o old new (Ok x) = Kept old new × ((ns : List Name) (ts : List TermValue) → o ≡ Ok (view (new.parameters.items ++ ns) (new.terms.items ++ ts) x))
+Adds view o old new (Err f) = Refuses f o
+
+-- The answer of a value that names nothing by number.
+abbrev pub GivesAlways : {A B : Type 0} → (List Name → List TermValue → B → A) → Shaped A → Result B ShapeFault → Type 0
+GivesAlways view o r = (ns : List Name) (ts : List TermValue) → Gives (view ns ts) o r
+
+-- The list with what is answered behind it.
+pub record Longer {A : Type 0} (o : Shaped (List A)) (old new : List A) : Type 0 where
+  pub more : List A
+  pub is : new ≡ old ++ more
+  pub said : o ≡ Ok more
+
+abbrev pub Grows : {A : Type 0} → Shaped (List A) → List A → List A → Result Unit ShapeFault → Type 0
+Grows o old new (Ok u) = Longer o old new
+Grows o old new (Err f) = Refuses f o
 
 -- The specification, or the fault.
 abbrev pub Shapes : Shaped Specification → Result Spec ShapeFault → Type 0

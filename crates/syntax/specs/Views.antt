@@ -1,10 +1,11 @@
 -- The specification that the values of the code are.
-use Rattle.std.specs.Prelude.{List, [], ◌∷◌, map}
+use Rattle.std.specs.Prelude.{ℕ, List, [], ◌∷◌, map, slice_index_or, slice_range}
 use Rattle.syntax.specs.declared.spec.Term.{Term as TermValue, fold-Term}
 use Rattle.syntax.specs.declared.spec.Term.TheOpen.{Term-F}
 use Rattle.syntax.specs.declared.spec.Declaration.{Declaration}
 use Rattle.syntax.specs.declared.spec.Declaration.TheVariants as declarations
 use Rattle.syntax.specs.declared.spec.Line.{Line}
+use Rattle.syntax.specs.declared.spec.Name.{Name}
 use Rattle.syntax.specs.declared.spec.Spec.{Spec}
 use Rattle.syntax.specs.Specs.{Term, name, tuple, crypt, apply, Terms, none, more, Declared, value, function, knows, everybody, Lined, Specification}
 
@@ -25,14 +26,29 @@ term_of = fold-Term Term term_step
 abbrev pub terms_of : List TermValue → Terms
 terms_of ts = terms (map term_of ts)
 
-abbrev pub declared_of : Declaration → Declared
-declared_of (declarations.Value n k shared) = value n k shared
-declared_of (declarations.Function n c r ps) = function n c r ps.items
-declared_of (declarations.Knows n t) = knows n (term_of t)
-declared_of (declarations.EverybodyKnows t) = everybody (term_of t)
+-- what a number that is no term's stands for
+abbrev pub nothing : Term
+nothing = name 0 (record { at = 0; len = 0 })
 
-abbrev pub line_of : Line → Lined
-line_of l = record { label = l.label; sender = l.sender; receiver = l.receiver; message = term_of l.message }
+abbrev pub term_in : List TermValue → ℕ → Term
+term_in ts k = slice_index_or (map term_of ts) k nothing
+
+-- rows, by the names and terms that they name by number
+module _ (ns : List Name) (ts : List TermValue) where
+  abbrev pub declared_in : Declaration → Declared
+  declared_in (declarations.Value n k shared) = value n k shared
+  declared_in (declarations.Function n c r first end) = function n c r (slice_range ns first end)
+  declared_in (declarations.Knows n t) = knows n (term_in ts t)
+  declared_in (declarations.EverybodyKnows t) = everybody (term_in ts t)
+
+  abbrev pub line_in : Line → Lined
+  line_in l = record { label = l.label; sender = l.sender; receiver = l.receiver; message = term_in ts l.message }
+
+abbrev pub declared_of : Spec → Declaration → Declared
+declared_of s = declared_in s.parameters.items s.terms.items
+
+abbrev pub line_of : Spec → Line → Lined
+line_of s = line_in s.parameters.items s.terms.items
 
 abbrev pub specification_of : Spec → Specification
-specification_of s = record { declarations = map declared_of s.declarations.items; lines = map line_of s.lines.items }
+specification_of s = record { declarations = map (declared_of s) s.declarations.items; lines = map (line_of s) s.lines.items }

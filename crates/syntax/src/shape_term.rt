@@ -10,11 +10,11 @@ use crate::source::{Bracket, Headed, Item, MOST_PARTS, Source, short};
 use crate::spec::Term;
 use crate::symbol::Symbol;
 use base::{boxed, push, with_room};
-use text::node::Node;
+use text::tree::Tree;
 
 impl Source<'_> {
     #[cycle(term)]
-    pub(crate) fn term(self, node: &Node) -> Result<Term, ShapeFault>
+    pub(crate) fn term(self, node: &Tree) -> Result<Term, ShapeFault>
         ensures { seeing.Gives term_of (shape.term self.entry.text.now (tree_of node.now)) result }
     {
         match self.item(node)? {
@@ -31,7 +31,7 @@ impl Source<'_> {
 
     // By a loop: a closure that calls back into this cycle would need a contract, which cannot name the cycle's measure.
     #[cycle(term)]
-    fn terms(self, parts: &[Node]) -> Result<Vec<Term>, ShapeFault>
+    fn terms(self, parts: &[Tree]) -> Result<Vec<Term>, ShapeFault>
         ensures { seeing.Gives (λ ts. terms_of ts.items) (shape.terms self.entry.text.now (trees_of parts.now)) result }
     {
         let mut terms = with_room(self.heap, parts.len())?;
@@ -42,7 +42,7 @@ impl Source<'_> {
     }
 
     #[cycle(term)]
-    fn tuple(self, at: usize, parts: &[Node]) -> Result<Term, ShapeFault>
+    fn tuple(self, at: usize, parts: &[Tree]) -> Result<Term, ShapeFault>
         ensures { seeing.Gives term_of (seeing.tuple_term self.entry.text.now at (trees_of parts.now)) result }
     {
         if parts.len() > MOST_PARTS {
@@ -54,7 +54,7 @@ impl Source<'_> {
 
     // A text and a key, and the mark behind them.
     #[cycle(term)]
-    fn ciphertext(self, at: usize, parts: &[Node]) -> Result<Term, ShapeFault>
+    fn ciphertext(self, at: usize, parts: &[Tree]) -> Result<Term, ShapeFault>
         ensures { seeing.Gives term_of (shape.crypt_term self.entry.text.now at (trees_of parts.now)) result }
     {
         let [text, key, mark] = parts else {
@@ -66,7 +66,7 @@ impl Source<'_> {
         Ok(Term::Crypt { at, text, key })
     }
 
-    fn vanilla(self, node: &Node) -> Result<(), ShapeFault>
+    fn vanilla(self, node: &Tree) -> Result<(), ShapeFault>
         ensures { result ≡ shape.vanilla self.entry.text.now (tree_of node.now) }
     {
         let bracket = self.form(node, Symbol::Vanilla)?;
@@ -78,7 +78,7 @@ impl Source<'_> {
 
     // A function's name and the arguments.
     #[cycle(term)]
-    fn application(self, at: usize, parts: &[Node]) -> Result<Term, ShapeFault>
+    fn application(self, at: usize, parts: &[Tree]) -> Result<Term, ShapeFault>
         ensures { seeing.Gives term_of (shape.apply_term self.entry.text.now at (trees_of parts.now)) result }
     {
         let Headed { name, rest } = self.headed(at, parts)?;

@@ -1,4 +1,4 @@
-// The text that a tree was read from, by which the tree's nodes are looked at.
+// The text that a tree was read from, by which its nodes are looked at.
 ghost use Rattle.std.specs.Prelude.{◌≡◌};
 ghost use Rattle.text.specs.Nodes.{tree_of, trees_of};
 ghost use Rattle.syntax.specs.Shape as shape;
@@ -10,6 +10,7 @@ use crate::spec::Name;
 use crate::symbol::{Symbol, symbol_of};
 use std::alloc::Global;
 use text::node::Node;
+use text::tree::Tree;
 
 // a name has at most so many bytes
 const LONGEST_NAME: usize = 31;
@@ -23,15 +24,15 @@ pub struct Source<'a> {
     pub text: &'a [u8],
 }
 
-// A bracket with a symbol that is carried, and the nodes in it.
+// A bracket with a symbol that is carried, and the trees in it.
 #[derive(Clone, Copy)]
 pub struct Bracket<'a> {
     pub at: usize,
     pub symbol: Symbol,
-    pub parts: &'a [Node],
+    pub parts: &'a [Tree],
 }
 
-// What a node shows of itself.
+// What a tree's first node shows of itself.
 #[derive(Clone, Copy)]
 pub enum Item<'a> {
     Name(Name),
@@ -39,19 +40,19 @@ pub enum Item<'a> {
     Bracket(Bracket<'a>),
 }
 
-// A name, and the nodes behind it.
+// A name, and the trees behind it.
 #[derive(Clone, Copy)]
 pub struct Headed<'a> {
     pub name: Name,
-    pub rest: &'a [Node],
+    pub rest: &'a [Tree],
 }
 
 impl Source<'_> {
     // A quoted text must be a name, and a symbol one that is carried, wherever they stand.
-    pub(crate) fn item<'b>(self, node: &'b Node) -> Result<Item<'b>, ShapeFault>
+    pub(crate) fn item<'b>(self, node: &'b Tree) -> Result<Item<'b>, ShapeFault>
         ensures { seeing.Shows self.entry.text.now (tree_of node.now) result }
     {
-        match *node {
+        match node.node() {
             Node::Quoted { at, inside: part } => {
                 if !is_name(part.of(self.text)) {
                     return Err(ShapeFault::NoName { at });
@@ -59,11 +60,7 @@ impl Source<'_> {
                 Ok(Item::Name(Name { at, part }))
             }
             Node::Integer { at, value } => Ok(Item::Number { at, value }),
-            Node::Bracket {
-                at,
-                symbol,
-                ref parts,
-            } => match symbol_of(symbol.of(self.text)) {
+            Node::Bracket { at, symbol, parts } => match symbol_of(symbol.of(self.text)) {
                 Symbol::NotCarried => Err(ShapeFault::NotCarried { at }),
                 symbol => Ok(Item::Bracket(Bracket { at, symbol, parts })),
             },
@@ -71,7 +68,7 @@ impl Source<'_> {
     }
 
     // A name of at most 31 bytes.
-    pub(crate) fn name(self, node: &Node) -> Result<Name, ShapeFault>
+    pub(crate) fn name(self, node: &Tree) -> Result<Name, ShapeFault>
         ensures { result ≡ shape.a_name self.entry.text.now (tree_of node.now) }
     {
         match self.item(node)? {
@@ -81,7 +78,7 @@ impl Source<'_> {
     }
 
     // A bracket with a symbol that is carried.
-    pub(crate) fn bracket<'b>(self, node: &'b Node) -> Result<Bracket<'b>, ShapeFault>
+    pub(crate) fn bracket<'b>(self, node: &'b Tree) -> Result<Bracket<'b>, ShapeFault>
         ensures { seeing.Opens self.entry.text.now (tree_of node.now) result }
     {
         match self.item(node)? {
@@ -91,7 +88,7 @@ impl Source<'_> {
     }
 
     // A bracket with this symbol.
-    pub(crate) fn form<'b>(self, node: &'b Node, wanted: Symbol) -> Result<Bracket<'b>, ShapeFault>
+    pub(crate) fn form<'b>(self, node: &'b Tree, wanted: Symbol) -> Result<Bracket<'b>, ShapeFault>
         ensures { seeing.Formed self.entry.text.now wanted (tree_of node.now) result }
     {
         let bracket = self.bracket(node)?;
@@ -101,8 +98,8 @@ impl Source<'_> {
         Ok(bracket)
     }
 
-    // A name, and up to 8 nodes behind it.
-    pub(crate) fn headed<'b>(self, at: usize, parts: &'b [Node]) -> Result<Headed<'b>, ShapeFault>
+    // A name, and up to 8 trees behind it.
+    pub(crate) fn headed<'b>(self, at: usize, parts: &'b [Tree]) -> Result<Headed<'b>, ShapeFault>
         ensures { seeing.viewed seeing.headed_by result ≡ seeing.headed self.entry.text.now at (trees_of parts.now) }
     {
         let [head, rest @ ..] = parts else {

@@ -3,7 +3,7 @@ use Rattle.std.proofs.Common.{◌≡◌, ◌==◌, ℕ, suc, ◌<◌, cond, List
 use Rattle.std.specs.Borrow.{Bor}
 use Rattle.std.specs.Prelude.{option_map}
 use Rattle.std.specs.List.{find}
-use Rattle.std.specs.Option.{ok_or}
+use Rattle.std.specs.Option.{ok_or, option_copied}
 use Rattle.std.specs.Slice.{IsItemAt}
 use Rattle.std.proofs.lemmas.List.{get_or-map}
 use Rattle.std.proofs.lemmas.Bool.{eq-eqb, ne_eqb}
@@ -21,14 +21,14 @@ use Rattle.text.specs.declared.part.Part.{Part}
 use Rattle.terms.specs.Consistency.{Defined}
 use Rattle.terms.specs.Scope.{Scope, Signature, no_function, declares, meaning_of}
 use Rattle.terms.specs.Typing.{and_then, fits, applied, applied_fits, typed, typed_all}
-use Rattle.terms.specs.Meanings.{signature_of, scope_of}
+use Rattle.terms.specs.Meanings.{types_of, signature_in, scope_of}
 use Rattle.terms.specs.Checked.{found}
 use Rattle.terms.proofs.Naming.{found_place}
 
 -- a function by its number
-function_at : (fs : List Function) (g at : ℕ) → g < length fs → (o : Option (Bor Function)) → IsItemAt fs g o → found (ok_or o (WrongType at)) ≡ Ok (get_or (map signature_of fs) g no_function)
-function_at fs g at h None i = absurd (let z = i.2 h in cc)
-function_at fs g at h (Some f) i = ap Ok (ap signature_of i.1 ∙ sym (get_or-map signature_of fs g f.now no_function h))
+function_at : (d : Declarations) (fs : List Function) (g at : ℕ) → g < length fs → (o : Option (Bor Function)) → IsItemAt fs g o → found d (ok_or (option_copied o) (WrongType at)) ≡ Ok (get_or (map (signature_in (types_of d)) fs) g no_function)
+function_at d fs g at h None i = absurd (let z = i.2 h in cc)
+function_at d fs g at h (Some f) i = ap Ok (ap (signature_in (types_of d)) i.1 ∙ sym (get_or-map (signature_in (types_of d)) fs g f.now no_function h))
 
 -- a function's name stands for one of the functions
 pub function_within : (text : List ℕ) (names : List Declared) (many : ℕ) → Defined names many → (p : Part) (g : ℕ) → meaning_of text names p ≡ Some (meaning.Function g) → g < many
@@ -39,10 +39,10 @@ function_within text names many m p g e = go (find (declares text p) names) refl
     go (Some x) q e = let a = found_place (declares text p) names x q in m a.0 g x a.1 (ap (λ (x : Declared). x.meaning) a.2 ∙ cc)
 
 module _ (text : List ℕ) (d : Declarations) (n : Name) (g : ℕ) (e : meaning_of text (vec_items d.names) n.part ≡ Some (meaning.Function g)) where
-  pub function_found : (fs : List Function) → fs ≡ vec_items d.functions → (o : Option (Bor Function)) → IsItemAt fs g o → found (ok_or o (WrongType n.at)) ≡ applied (scope_of d).functions n (meaning_of text (scope_of d).names n.part)
+  pub function_found : (fs : List Function) → fs ≡ vec_items d.functions → (o : Option (Bor Function)) → IsItemAt fs g o → found d (ok_or (option_copied o) (WrongType n.at)) ≡ applied (scope_of d).functions n (meaning_of text (scope_of d).names n.part)
   function_found fs q o i =
       let h : g < length fs = let l = ap length q in let w = function_within text (vec_items d.names) (vec_len d.functions) d.defined n.part g e in let k = d.functions.ok.0 in omega arith in
-      function_at fs g n.at h o i ∙ ap (λ fs. Ok (get_or (map signature_of fs) g no_function)) q ∙ ap (applied (scope_of d).functions n) (sym e)
+      function_at d fs g n.at h o i ∙ ap (λ fs. Ok (get_or (map (signature_in (types_of d)) fs) g no_function)) q ∙ ap (applied (scope_of d).functions n) (sym e)
 
 pub count-terms : (ts : List TermValue) → count (terms_of ts) ≡ length ts
 count-terms [] = refl

@@ -13,7 +13,7 @@ use Rattle.terms.specs.Scope.{Scope}
 use Rattle.terms.specs.Numbering.{tree}
 use Rattle.terms.specs.Refusals.{to_declaration}
 use Rattle.terms.specs.Declaring.{bind, in_declaration, with_term, right_of, known, with_right, with_start}
-use Rattle.terms.specs.Meanings.{given_in, signature_of, trees_of, scope_of}
+use Rattle.terms.specs.Meanings.{given_in, types_of, signature_in, trees_of, scope_of}
 use Rattle.terms.specs.Termed.{Refused, Termed}
 use Rattle.terms.specs.Declares.{Unfit}
 use Rattle.terms.proofs.ListedTrees.{listed_at}
@@ -49,7 +49,7 @@ module _ (text : List ℕ) (limits : Limits) (d : Declarations) (who : Option �
   module _ (r : None ≡ right_of text (scope_of d) t) where
     -- a term to start from
     pub knows_term : (d₁ : Declarations) (k : ℕ) → Termed text (min limits.terms 512) t (scope_of d) (scope_of d₁) (Ok k) → (starts : List Start) → starts ≡ vec_items d₁.starts ++ (record { knower = who; term = k } ∷ [])
-        → known text limits who t (scope_of d) ≡ Ok (record { names = vec_items d₁.names; functions = map signature_of (vec_items d₁.functions); starts = map (given_in d₁.terms) starts; rights = vec_items d₁.rights; terms = trees_of d₁.terms })
+        → known text limits who t (scope_of d) ≡ Ok (record { names = vec_items d₁.names; functions = map (signature_in (types_of d₁)) (vec_items d₁.functions); starts = map (given_in d₁.terms) starts; rights = vec_items d₁.rights; terms = trees_of d₁.terms })
     knows_term d₁ k w starts s =
         let x = taken text (min limits.terms 512) t (scope_of d) (scope_of d₁) w.0 in
         ap known_by (sym r) ∙ ap (λ z. bind (in_declaration z) (λ U. Ok (with_start text limits who t U))) w.0

@@ -39,6 +39,7 @@ pub same_on : (a b c : Declarations) → SameNames a b → SameNames b c → Sam
 same_on a b c s r = record {
   names = r.names ∙ s.names;
   functions = r.functions ∙ s.functions;
+  parameters = r.parameters ∙ s.parameters;
   starts = r.starts ∙ s.starts;
   rights = r.rights ∙ s.rights;
 }

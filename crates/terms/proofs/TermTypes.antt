@@ -1,5 +1,5 @@
 -- The check of types decides the rules, and answers what is first wrong.
-use Rattle.std.proofs.Common.{◌≡◌, ◌==◌, ℕ, zero, suc, ◌<◌, Bool, true, false, cond, List, [], ◌∷◌, ◌++◌, length, get_or, Some, None, Ok, Err, Option, Result, vec_items, sym, refl, ap, ap₂, ◌∙◌, subst, arith}
+use Rattle.std.proofs.Common.{◌≡◌, ◌==◌, ℕ, zero, suc, ◌<◌, Bool, true, false, cond, List, [], ◌∷◌, ◌++◌, length, get_or, Some, None, Ok, Err, Option, Result, sym, refl, ap, ap₂, ◌∙◌, subst, arith}
 use Rattle.std.specs.Prelude.{slice_get}
 use Rattle.std.proofs.lemmas.List.{length-map}
 use Rattle.std.proofs.lemmas.Bool.{eqb-true, eq-eqb, ne_eqb}
@@ -16,7 +16,7 @@ use Rattle.terms.specs.declared.fault.TermFault.TheVariants.{Undeclared, WrongTy
 use Rattle.terms.proofs.Checking.{function_within}
 use Rattle.terms.proofs.Terming.{then_ok, first_ok}
 use Rattle.terms.specs.Consistency.{Defined}
-use Rattle.terms.specs.Meanings.{signature_of, scope_of}
+use Rattle.terms.specs.Meanings.{functions_of, types_of, signature_in, scope_of}
 use Rattle.terms.specs.Scope.{Scope, Signature, no_function, meaning_of}
 use Rattle.terms.specs.Typing.{and_then, stands_for, fits, name_fits, applied, applied_fits, typed, typed_all}
 use Rattle.terms.specs.TermTypes as rules
@@ -279,6 +279,6 @@ module _ (text : List ℕ) (S : Scope) (d : Defined S.names (length S.functions)
 -- so it is in what is declared
 pub typing_law_of : (text : List ℕ) (d : Declarations) → TypingLaw text (scope_of d)
 typing_law_of text d =
-    let n = length-map (vec_items d.functions) signature_of in
+    let n = length-map (functions_of d) (signature_in (types_of d)) in
     let k = d.functions.ok.0 in
     typing_law text (scope_of d) (λ i f x h e. let l = d.defined i f x h e in omega arith)

@@ -23,7 +23,7 @@ use Rattle.terms.specs.Typing.{and_then, stands_for, fits, name_fits, applied, a
 use Rattle.terms.specs.Numbering.{tree, read}
 use Rattle.terms.specs.Declaring.{with_terms}
 use Rattle.terms.specs.Consistency.{Started}
-use Rattle.terms.specs.Meanings.{Lists, given_in, signature_of, trees_of, scope_of}
+use Rattle.terms.specs.Meanings.{Lists, given_in, signature_in, trees_of, scope_of}
 use Rattle.terms.specs.Rows.{Begins}
 use Rattle.terms.specs.Reads.{SameNames, Sayable, SayableAll, Reads}
 use Rattle.terms.specs.Reads.{Refused as TermRefused}
@@ -97,7 +97,7 @@ module _ (d d' : Declarations) (s : SameNames d d') where
       → scope_of d' ≡ record { names = (scope_of d).names; functions = (scope_of d).functions; starts = (scope_of d).starts; rights = (scope_of d).rights; terms = us }
   scope_grown g us l =
       same_scope (scope_of d') (record { names = (scope_of d).names; functions = (scope_of d).functions; starts = (scope_of d).starts; rights = (scope_of d).rights; terms = us })
-      (ap vec_items s.names) (ap (λ fs. map signature_of (vec_items fs)) s.functions)
+      (ap vec_items s.names) (ap₂ (λ ws fs. map (signature_in (vec_items ws)) (vec_items fs)) s.parameters s.functions)
       (ap (λ ss. map (given_in d'.terms) (vec_items ss)) s.starts ∙ given_same d.terms d'.terms (vec_items d.starts) g d.started)
       (ap vec_items s.rights) (sym (lists_are d'.terms us l))
 
@@ -106,7 +106,7 @@ scope_back : (d d' : Declarations) → SameNames d d' → (t : TermTable) → ve
     → record { names = (scope_of d').names; functions = (scope_of d').functions; starts = map (given_in t) (vec_items d'.starts); rights = (scope_of d').rights; terms = trees_of t } ≡ scope_of d
 scope_back d d' s t e =
     same_scope (record { names = (scope_of d').names; functions = (scope_of d').functions; starts = map (given_in t) (vec_items d'.starts); rights = (scope_of d').rights; terms = trees_of t }) (scope_of d)
-    (ap vec_items s.names) (ap (λ fs. map signature_of (vec_items fs)) s.functions)
+    (ap vec_items s.names) (ap₂ (λ ws fs. map (signature_in (vec_items ws)) (vec_items fs)) s.parameters s.functions)
     (ap (λ ss. map (given_in t) (vec_items ss)) s.starts ∙ given_same d.terms t (vec_items d.starts) (grows_refused d.terms t e) d.started)
     (ap vec_items s.rights) (same_trees d.terms t e)
 

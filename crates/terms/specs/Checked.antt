@@ -1,11 +1,11 @@
 -- The function that the check of a term finds.
 use Rattle.std.specs.Prelude.{Ok, Err, Result}
-use Rattle.std.specs.Borrow.{Bor}
+use Rattle.terms.specs.declared.declarations.Declarations.{Declarations}
 use Rattle.terms.specs.declared.declarations.Function.{Function}
 use Rattle.terms.specs.declared.fault.TermFault.{TermFault}
 use Rattle.terms.specs.Scope.{Signature}
-use Rattle.terms.specs.Meanings.{signature_of}
+use Rattle.terms.specs.Meanings.{types_of, signature_in}
 
-abbrev pub found : Result (Bor Function) TermFault → Result Signature TermFault
-found (Ok f) = Ok (signature_of f.now)
-found (Err e) = Err e
+abbrev pub found : Declarations → Result Function TermFault → Result Signature TermFault
+found d (Ok f) = Ok (signature_in (types_of d) f)
+found d (Err e) = Err e

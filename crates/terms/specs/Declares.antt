@@ -1,6 +1,5 @@
 -- What reading a declaration does.
-use Rattle.std.specs.Prelude.{◌≡◌, ℕ, List, [], ◌∷◌, ◌++◌, Ok, Err, vec_items, Vec, Option, Result}
-use Rattle.std.specs.declared.alloc.Global.{Global}
+use Rattle.std.specs.Prelude.{◌≡◌, ℕ, List, [], ◌∷◌, ◌++◌, Ok, Err, vec_items, Option, Result}
 use Rattle.syntax.specs.declared.spec.Name.{Name}
 use Rattle.syntax.specs.Specs as syntax
 use Rattle.syntax.specs.Specs.{Term, Specification}
@@ -32,10 +31,10 @@ abbrev pub Scoped : Result Scope DeclarationFault → Declarations → Result (U
 Scoped q d (Ok x) = q ≡ Ok (scope_of d)
 Scoped q d (Err f) = Unfit q f
 
--- the types of some names
-abbrev pub Kinds : List ℕ → List Name → Result (Vec ValueType Global) DeclarationFault → Type 0
-Kinds text ns (Ok v) = kinds_of text ns ≡ Ok (vec_items v)
-Kinds text ns (Err f) = Unfit (kinds_of text ns) f
+-- the types of some names, behind those that were there
+abbrev pub Kinds : List ℕ → List Name → List ValueType → List ValueType → Result (Unit {0}) DeclarationFault → Type 0
+Kinds text ns ws ws' (Ok x) = (ks : List ValueType) × ((kinds_of text ns ≡ Ok ks) × (ws' ≡ ws ++ ks))
+Kinds text ns ws ws' (Err f) = Unfit (kinds_of text ns) f
 
 -- it is done, or there was no memory
 abbrev pub Done : Type 0 → Result (Unit {0}) Lack → Type 0
@@ -49,13 +48,14 @@ declared_name n m = record { name = n.part; meaning = m }
 abbrev pub function_name : Name → ℕ → Declared
 function_name n k = declared_name n (meaning.Function k)
 
-abbrev pub function_row : Name → FunctionClass → ValueType → Vec ValueType Global → Function
-function_row n c result parameters = record { name = n.part; class = c; result = result; parameters = parameters }
+abbrev pub function_row : Name → FunctionClass → ValueType → ℕ → ℕ → Function
+function_row n c result first end = record { name = n.part; class = c; result = result; first = first; end = end }
 
 -- one name more, and nothing else
 pub record MoreNames (d d' : Declarations) (x : Declared) : Type 0 where
   pub names : vec_items d'.names ≡ vec_items d.names ++ (x ∷ [])
   pub functions : d'.functions ≡ d.functions
+  pub parameters : d'.parameters ≡ d.parameters
   pub starts : d'.starts ≡ d.starts
   pub rights : d'.rights ≡ d.rights
   pub terms : d'.terms ≡ d.terms
@@ -64,6 +64,7 @@ pub record MoreNames (d d' : Declarations) (x : Declared) : Type 0 where
 pub record MoreFunctions (d d' : Declarations) (x : Declared) (f : Function) : Type 0 where
   pub names : vec_items d'.names ≡ vec_items d.names ++ (x ∷ [])
   pub functions : vec_items d'.functions ≡ vec_items d.functions ++ (f ∷ [])
+  pub parameters : d'.parameters ≡ d.parameters
   pub starts : d'.starts ≡ d.starts
   pub rights : d'.rights ≡ d.rights
   pub terms : d'.terms ≡ d.terms

@@ -1,16 +1,25 @@
 -- What the tables of declarations stand for.
-use Rattle.std.specs.Prelude.{◌≡◌, ℕ, zero, suc, ◌<◌, List, [], ◌∷◌, ◌++◌, map, length, vec_items, slice_index_or}
+use Rattle.std.specs.Prelude.{◌≡◌, ℕ, zero, suc, ◌-◌, ◌<◌, List, [], ◌∷◌, ◌++◌, map, length, vec_items, slice_index_or, slice_range}
 use Rattle.model.specs.Trees.{Tree, leaf}
 use Rattle.terms.specs.declared.declarations.Declarations.{Declarations}
 use Rattle.terms.specs.declared.declarations.Function.{Function}
 use Rattle.terms.specs.declared.declarations.Start.{Start}
+use Rattle.terms.specs.declared.declarations.ValueType.{ValueType}
 use Rattle.terms.specs.declared.table.TermTable.{TermTable}
 use Rattle.terms.specs.Terms.{tree_in, size}
 use Rattle.terms.specs.Scope.{Scope, Signature, Given}
 
+-- the types of a function's parameters, among those of all functions
+abbrev pub parameters_in : List ValueType → Function → List ValueType
+parameters_in ws f = slice_range ws f.first f.end
+
+-- and how many they are, where they stand in the list
+abbrev pub arity : Function → ℕ
+arity f = f.end - f.first
+
 -- a function's row
-abbrev pub signature_of : Function → Signature
-signature_of f = record { name = f.name; class = f.class; result = f.result; parameters = vec_items f.parameters }
+abbrev pub signature_in : List ValueType → Function → Signature
+signature_in ws f = record { name = f.name; class = f.class; result = f.result; parameters = parameters_in ws f }
 
 abbrev pub given_in : TermTable → Start → Given
 given_in t s = record { knower = s.knower; term = tree_in t s.term }
@@ -29,9 +38,12 @@ first_trees f (suc k) = first_trees f k ++ (f k ∷ [])
 unfoldable pub trees_of : TermTable → List Tree
 trees_of t = first_trees (tree_in t) (size t)
 
--- the rows of functions and of starts, and the terms by number
+-- the rows of functions, the types of their parameters, the rows of starts, and the terms by number
 abbrev pub functions_of : Declarations → List Function
 functions_of d = vec_items d.functions
+
+abbrev pub types_of : Declarations → List ValueType
+types_of d = vec_items d.parameters
 
 abbrev pub starts_of : Declarations → List Start
 starts_of d = vec_items d.starts
@@ -43,7 +55,7 @@ table_of d = d.terms
 abbrev pub scope_of : Declarations → Scope
 scope_of d = record {
   names = vec_items d.names;
-  functions = map signature_of (functions_of d);
+  functions = map (signature_in (types_of d)) (functions_of d);
   starts = map (given_in (table_of d)) (starts_of d);
   rights = vec_items d.rights;
   terms = trees_of (table_of d);

@@ -19,6 +19,7 @@ use Rattle.terms.specs.Meanings.{Lists}
 pub record SameNames (d d' : Declarations) : Type 0 where
   pub names : d'.names ≡ d.names
   pub functions : d'.functions ≡ d.functions
+  pub parameters : d'.parameters ≡ d.parameters
   pub starts : d'.starts ≡ d.starts
   pub rights : d'.rights ≡ d.rights
 

@@ -1,6 +1,6 @@
 // What is declared: names with their types, functions, starting knowledge; and the terms, by number.
 ghost use Rattle.std.specs.Prelude.{◌≡◌, ◌≤◌, vec_len};
-ghost use Rattle.terms.specs.Consistency.{Defined, Started};
+ghost use Rattle.terms.specs.Consistency.{Defined, Started, Within};
 ghost use Rattle.terms.specs.Terms.{size};
 
 use crate::fault::TermFault;
@@ -37,8 +37,9 @@ pub struct Declared {
     pub meaning: Meaning,
 }
 
-/// A function. Its name stands here too, since a program's text goes by the number of a function.
-#[derive(Clone, Drop)]
+/// A function. Its name stands here too, since a program's text goes by the number of a function. The types of its parameters stand
+/// among those of all functions, from `first` to `end`: `Declarations::parameters` shows them.
+#[derive(Clone, Copy)]
 pub struct Function {
     /// the bytes of its name, as a part of the text
     pub name: Part,
@@ -46,8 +47,21 @@ pub struct Function {
     pub class: FunctionClass,
     /// the type of an application
     pub result: ValueType,
-    /// the types of the arguments
-    pub parameters: Vec<ValueType>,
+    /// the place of its first parameter's type
+    pub first: usize,
+    /// the place behind its last parameter's type
+    pub end: usize,
+}
+
+impl Function {
+    ghost use Rattle.terms.specs.Meanings.{arity};
+
+    /// How many parameters it has: how many places lie from `first` to `end`.
+    pub fn arity(self) -> usize
+        ensures { result ≡ arity self }
+    {
+        self.end.saturating_sub(self.first)
+    }
 }
 
 /// A term that a party starts from: the one of that name, or everybody.
@@ -74,29 +88,34 @@ pub struct Right {
 pub struct Declarations {
     pub(crate) names: Vec<Declared>,
     pub(crate) functions: Vec<Function>,
+    // the types of all functions' parameters, in their order
+    pub(crate) parameters: Vec<ValueType>,
     pub(crate) starts: Vec<Start>,
     pub(crate) rights: Vec<Right>,
     pub(crate) terms: TermTable,
     ghost few: { vec_len names ≤ 128 },
     ghost fewer: { vec_len functions ≤ vec_len names },
+    ghost within: { Within functions.items (vec_len parameters) },
     ghost defined: { Defined names.items (vec_len functions) },
     ghost started: { Started starts.items (size terms) },
 }
 
 impl Declarations {
-    ghost use Rattle.std.specs.Prelude.{◌≡◌};
+    ghost use Rattle.std.specs.Prelude.{◌≡◌, []};
     ghost use Rattle.terms.specs.Scope.{nothing_declared, number_of, meaning_of, function_of};
     ghost use Rattle.terms.specs.Declaring.{principal};
-    ghost use Rattle.terms.specs.Meanings.{scope_of, table_of, functions_of, starts_of};
+    ghost use Rattle.terms.specs.Meanings.{scope_of, table_of, functions_of, types_of, parameters_in, starts_of};
 
     /// Nothing is declared.
     #[tactic(auto, unfolding(crate::specs::Meanings::trees_of))]
     pub fn new(heap: Global) -> Declarations
-        ensures { scope_of result ≡ nothing_declared }
+        ensures scope { scope_of result ≡ nothing_declared }
+        ensures types { types_of result ≡ [] }
     {
         Declarations {
             names: Vec::new(heap),
             functions: Vec::new(heap),
+            parameters: Vec::new(heap),
             starts: Vec::new(heap),
             rights: Vec::new(heap),
             terms: TermTable::new(heap),
@@ -115,6 +134,14 @@ impl Declarations {
         ensures { result.now ≡ functions_of self.now }
     {
         &self.functions
+    }
+
+    /// The types of a function's parameters. A row that is none of `functions()` gets what stands from its `first` to its `end`.
+    pub fn parameters(&self, function: Function) -> &[ValueType]
+        ensures { result.now ≡ parameters_in (types_of self.now) function }
+    {
+        let end = function.end.min(self.parameters.len());
+        &self.parameters[function.first.min(end)..end]
     }
 
     /// The terms that parties start from, in the order of declaration.

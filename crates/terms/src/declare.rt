@@ -1,6 +1,6 @@
 // Reading the declarations, in their order.
-ghost use Rattle.std.specs.Prelude.{◌≡◌, ◌<◌, vec_len, OnOk};
-ghost use Rattle.syntax.specs.Views.{term_of, declared_of, specification_of};
+ghost use Rattle.std.specs.Prelude.{◌≡◌, ◌<◌, ◌≤◌, vec_len, OnOk};
+ghost use Rattle.syntax.specs.Views.{term_of, term_in, declared_of, specification_of};
 ghost use Rattle.terms.specs.Declaring.{fresh, kind_of, right_of};
 ghost use Rattle.terms.specs.Meanings.{scope_of};
 ghost use Rattle.terms.specs.declared.declarations.Meaning.TheVariants.{Value};
@@ -14,11 +14,11 @@ use std::alloc::Global;
 use syntax::spec::{Declaration, Name, Spec, Term};
 use syntax::symbol::FunctionClass;
 
-// What each declaration is read with. Lines are read with the same three, in `roles`: one type for both would be public for that alone.
+// What each declaration is read with. Lines are read with these and a heap, in `roles`: one type for both would be public for that alone.
 #[derive(Clone, Copy)]
 struct Reading<'a> {
-    heap: Global,
     text: &'a [u8],
+    spec: &'a Spec,
     limits: Limits,
 }
 
@@ -32,40 +32,56 @@ impl Declarations {
     ) -> Result<Declarations, DeclarationFault>
         ensures { Declares text.now limits (specification_of spec.now) result }
     {
-        let reading = Reading { heap, text, limits };
+        let reading = Reading { text, spec, limits };
         let mut declarations = Declarations::new(heap);
         for declaration in &spec.declarations {
-            declarations.add(reading, declaration)?;
+            declarations.add(reading, *declaration)?;
         }
         Ok(declarations)
     }
 
-    fn add(&mut self, reading: Reading, declaration: &Declaration) -> Result<(), DeclarationFault>
-        ensures { Declaring reading.entry.text.now reading.entry.limits self.old self.new (declared_of declaration.now) result }
+    fn add(&mut self, reading: Reading, declaration: Declaration) -> Result<(), DeclarationFault>
+        ensures { Declaring reading.entry.text.now reading.entry.limits self.old self.new (declared_of reading.entry.spec.now declaration) result }
     {
         match declaration {
             Declaration::Value { name, kind, shared } => {
-                self.unused(reading, *name)?;
-                let kind = type_of(reading.text, *kind)?;
-                Ok(self.value(*name, kind, *shared)?)
+                self.unused(reading, name)?;
+                let kind = type_of(reading.text, kind)?;
+                Ok(self.value(name, kind, shared)?)
             }
             Declaration::Function {
                 name,
                 class,
                 result,
-                parameters,
+                first,
+                end,
             } => {
-                self.unused(reading, *name)?;
-                let result = type_of(reading.text, *result)?;
-                let parameters = read_parameters(reading, parameters)?;
-                Ok(self.function(*name, *class, result, parameters)?)
+                self.unused(reading, name)?;
+                let result = type_of(reading.text, result)?;
+                let before = self.parameters.len();
+                let parameters = reading.spec.parameters(first, end);
+                read_parameters(reading.text, parameters, &mut self.parameters)?;
+                Ok(self.function(name, class, result, before)?)
             }
             Declaration::Knows { knower, term } => {
-                let knower = self.principal(reading.text, *knower)?;
-                self.known(reading, Some(knower), term)
+                let knower = self.principal(reading.text, knower)?;
+                self.known_by_number(reading, Some(knower), term)
             }
-            Declaration::EverybodyKnows { term } => self.known(reading, None, term),
+            Declaration::EverybodyKnows { term } => self.known_by_number(reading, None, term),
         }
+    }
+
+    // The same of a term by its number.
+    fn known_by_number(
+        &mut self,
+        reading: Reading,
+        knower: Option<u8>,
+        number: usize,
+    ) -> Result<(), DeclarationFault>
+        ensures { Knowing reading.entry.text.now reading.entry.limits self.old self.new knower (term_in reading.entry.spec.now.terms.items number) result }
+    {
+        let nothing = Term::nothing();
+        self.known(reading, knower, reading.spec.term_or(number, &nothing))
     }
 
     // A name is declared once.
@@ -94,15 +110,17 @@ impl Declarations {
         Ok(())
     }
 
+    // The types of its parameters were read from `first` on.
     fn function(
         &mut self,
         name: Name,
         class: FunctionClass,
         res: ValueType,
-        parameters: Vec<ValueType>,
+        first: usize,
     ) -> Result<(), NoMemory>
-        requires { vec_len self.old.names < 128 }
-        ensures { Done (MoreFunctions self.old self.new (function_name name (vec_len self.old.functions)) (function_row name class res parameters)) result }
+        requires room { vec_len self.old.names < 128 }
+        requires read { first ≤ vec_len self.old.parameters }
+        ensures { Done (MoreFunctions self.old self.new (function_name name (vec_len self.old.functions)) (function_row name class res first (vec_len self.old.parameters))) result }
     {
         let number = self.functions.len() as u8;
         reserve(&mut self.functions, 1)?;
@@ -113,7 +131,8 @@ impl Declarations {
             name,
             class,
             result: res,
-            parameters,
+            first,
+            end: self.parameters.len(),
         });
         Ok(())
     }
@@ -157,13 +176,17 @@ fn type_of(text: &[u8], name: Name) -> Result<ValueType, DeclarationFault>
     }
 }
 
-// The types of a function's parameters. By a loop, which an invariant of one line proves: to collect them would take a lemma.
-fn read_parameters(reading: Reading, names: &[Name]) -> Result<Vec<ValueType>, DeclarationFault>
-    ensures { Kinds reading.entry.text.now names.now result }
+// The types of a function's parameters, behind those of the functions before it.
+fn read_parameters(
+    text: &[u8],
+    names: &[Name],
+    parameters: &mut Vec<ValueType>,
+) -> Result<(), DeclarationFault>
+    ensures longer { vec_len parameters.old ≤ vec_len parameters.new }
+    ensures kinds { Kinds text.now names.now parameters.old.items parameters.new.items result }
 {
-    let mut parameters = Vec::new(reading.heap);
     for name in names {
-        push(&mut parameters, type_of(reading.text, *name)?)?;
+        push(parameters, type_of(text, *name)?)?;
     }
-    Ok(parameters)
+    Ok(())
 }

@@ -37,11 +37,12 @@ impl Declarations {
                 arguments,
             } => {
                 let function = self.applied(text, *function)?;
-                if function.parameters.len() != arguments.len() {
+                let parameters = self.parameters(function);
+                if parameters.len() != arguments.len() {
                     return Err(TermFault::WrongType { at: *at });
                 }
                 fits(*at, function.result, wanted)?;
-                self.check_parts(text, arguments, &function.parameters)
+                self.check_parts(text, arguments, parameters)
             }
         }
     }
@@ -75,8 +76,8 @@ impl Declarations {
     }
 
     // The function of an application.
-    fn applied(&self, text: &[u8], name: Name) -> Result<&Function, TermFault>
-        ensures { found result ≡ applied (scope_of self.now).functions name (meaning_of text.now (scope_of self.now).names name.part) }
+    fn applied(&self, text: &[u8], name: Name) -> Result<Function, TermFault>
+        ensures { found self.now result ≡ applied (scope_of self.now).functions name (meaning_of text.now (scope_of self.now).names name.part) }
     {
         let at = name.at;
         let Some(meaning) = self.meaning(text, name.part) else {
@@ -87,6 +88,7 @@ impl Declarations {
         };
         self.functions
             .get(number as usize)
+            .copied()
             .ok_or(TermFault::WrongType { at })
     }
 }

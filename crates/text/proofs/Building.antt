@@ -8,12 +8,12 @@ use Rattle.text.specs.Standing.{frame_of, frames, level}
 use Rattle.text.specs.Trees.{Tree, Trees, none, more, size, sizes, add}
 use Rattle.text.specs.declared.builder.Open.{Open}
 use Rattle.text.specs.declared.fault.TextFault.{TextFault}
-use Rattle.text.specs.declared.node.Node.{Node}
+use Rattle.text.specs.declared.tree.Tree.{Tree as TreeValue}
 
 pub frames_push : (os : List Open) (o : Open) → frames (os ++ (o ∷ [])) ≡ frame_of o ∷ frames os
 frames_push os o = ap reverse (map_push frame_of os o) ∙ reverse-append (map frame_of os) (frame_of o ∷ [])
 
-trees_push : (ns : List Node) (n : Node) → trees_of (ns ++ (n ∷ [])) ≡ add (trees_of ns) (tree_of n)
+trees_push : (ns : List TreeValue) (n : TreeValue) → trees_of (ns ++ (n ∷ [])) ≡ add (trees_of ns) (tree_of n)
 trees_push [] n = refl
 trees_push (m ∷ ns) n = ap (more (tree_of m)) (trees_push ns n)
 
@@ -27,7 +27,7 @@ unfolding count
 count_add fs f t = let h = sizes_add f.parts t in omega arith
 
 -- A node becomes a part of the last bracket.
-module _ (os : List Open) (o p : Open) (k : ℕ) (n : Node) (last : length os ≡ suc k) (is : o ≡ get_or os k o) (a : p.at ≡ o.at) (s : p.symbol ≡ o.symbol) (g : p.parts.items ≡ o.parts.items ++ (n ∷ [])) where
+module _ (os : List Open) (o p : Open) (k : ℕ) (n : TreeValue) (last : length os ≡ suc k) (is : o ≡ get_or os k o) (a : p.at ≡ o.at) (s : p.symbol ≡ o.symbol) (g : p.parts.items ≡ o.parts.items ++ (n ∷ [])) where
   split : os ≡ take k os ++ (o ∷ [])
   split = sym (take-append-drop k os) ∙ ap (λ l. take k os ++ l) (drop_more os k o (omega arith) ∙ rw (← is, drop_all (k + 1) os (omega arith)))
 

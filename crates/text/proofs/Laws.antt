@@ -8,7 +8,7 @@ use Rattle.text.specs.Reading.{read, reading, too_long, Answers}
 use Rattle.text.specs.Trees.{Tree}
 use Rattle.text.specs.declared.fault.TextFault.{TextFault}
 use Rattle.text.specs.declared.fault.TextFault.TheVariants.{Limit, Broken, NoMemory}
-use Rattle.text.specs.declared.node.Node.{Node}
+use Rattle.text.specs.declared.tree.Tree.{Tree as TreeValue}
 use Rattle.text.proofs.Spots.{spot}
 use Rattle.text.proofs.Completing.{Completes, Onward}
 use Rattle.text.proofs.Stepping.{onward}
@@ -128,7 +128,7 @@ module _ (text : List ℕ) where
       go false q = long_law (leb-false (length text) 65535 q) (read xs) all
 
   -- What the code answers obeys the law.
-  pub lawful : (r : Result Node TextFault) → Answers (reading text) r → Lawful text r
+  pub lawful : (r : Result TreeValue TextFault) → Answers (reading text) r → Lawful text r
   lawful (Ok n) e = subst (Obeys text) e law
   lawful (Err (Broken p)) e = subst (Obeys text) e law
   lawful (Err (Limit p)) e = subst (Obeys text) e law
@@ -151,7 +151,7 @@ pub front_text : (text : List ℕ) (n : ℕ) (t : Tree) → Text text t → Text
 front_text text n t s = subst (λ ys. Text ys t) (sym (take-append-drop n text)) s
 
 module _ (text : List ℕ) (t : Tree) (s : Text text t) where
-  known : (r : Result Node TextFault) → Lawful text r → Known text t r
+  known : (r : Result TreeValue TextFault) → Lawful text r → Known text t r
   known (Ok n) k = sym (k.only t s)
   known (Err (Broken p)) k = elim (cases_lt p (length text)) [
     | inl l ↦ k.ends l (drop (p + 1) text) t (front_text text (p + 1) t s)
@@ -165,13 +165,13 @@ module _ (text : List ℕ) (t : Tree) (s : Text text t) where
       ]
   known (Err (NoMemory w)) k = tt
 
-  accepted : Fits (nodes 1 t) → length text ≤ 65535 → (r : Result Node TextFault) → Known text t r → Accepted t r
+  accepted : Fits (nodes 1 t) → length text ≤ 65535 → (r : Result TreeValue TextFault) → Known text t r → Accepted t r
   accepted f l (Ok n) k = k
   accepted f l (Err (Broken p)) k = k
   accepted f l (Err (Limit p)) k = ⊎_elim (λ o. fits_passes p t f o) (λ o. let w = o.1 in omega arith) k
   accepted f l (Err (NoMemory w)) k = tt
 
-pub accepts : (text : List ℕ) (r : Result Node TextFault) → Answers (reading text) r → Accepts text r
+pub accepts : (text : List ℕ) (r : Result TreeValue TextFault) → Answers (reading text) r → Accepts text r
 accepts text r a =
     record {
       spelled = λ t s. known text t s r (lawful text r a);

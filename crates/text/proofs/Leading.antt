@@ -13,7 +13,7 @@ use Rattle.text.specs.Tokens.{Lexed, lex, limited, token, Read}
 use Rattle.text.specs.Trees.{Tree}
 use Rattle.text.specs.declared.fault.TextFault.{TextFault}
 use Rattle.text.specs.declared.fault.TextFault.TheVariants.{Limit, Broken, NoMemory}
-use Rattle.text.specs.declared.node.Node.{Node}
+use Rattle.text.specs.declared.tree.Tree.{Tree as TreeValue}
 use Rattle.text.specs.declared.token.Token.{Token}
 use Rattle.text.specs.declared.token.Token.TheVariants.{Quoted as QuotedToken, Integer as IntegerToken, Open as OpenToken, Close as CloseToken}
 use Rattle.text.specs.declared.builder.Open.{Open as OpenBracket}
@@ -50,10 +50,10 @@ turns_err q (Limit at) os n h = h
 turns_err q (Broken at) os n h = h
 turns_err q (NoMemory w) os n h = tt
 
-pub turns_some : (q : Result Point TextFault) (r : Option Node) (n : Node) (os : List OpenBracket) (k : ℕ) → r ≡ Some n → Turns q (Ok r) os k → Ends q (Ok n)
+pub turns_some : (q : Result Point TextFault) (r : Option TreeValue) (n : TreeValue) (os : List OpenBracket) (k : ℕ) → r ≡ Some n → Turns q (Ok r) os k → Ends q (Ok n)
 turns_some q r n os k e h = subst (λ o. Turns q (Ok o) os k) e h
 
-pub turns_none : (q : Result Point TextFault) (r : Option Node) (os : List OpenBracket) (k : ℕ) → r ≡ None → Turns q (Ok r) os k → (q ≡ Ok (level (frames os))) × (k ≡ count (frames os))
+pub turns_none : (q : Result Point TextFault) (r : Option TreeValue) (os : List OpenBracket) (k : ℕ) → r ≡ None → Turns q (Ok r) os k → (q ≡ Ok (level (frames os))) × (k ≡ count (frames os))
 turns_none q r os k e h = subst (λ o. Turns q (Ok o) os k) e h
 
 -- A token that is read begins a node only where there is room for it.
@@ -108,7 +108,7 @@ module _ (xs : List ℕ) (at : ℕ) (t : Tree) (end : ℕ) (e : end ≡ at + spa
       rest_is ∙ ap (run full end (between (after t))) d ∙ no_blank (class (get_or xs end 0)) s (get_or xs end 0) (drop (end + 1) xs)
 
 -- The whole text, once its term is read.
-module _ (text xs ys : List ℕ) (q : xs ≡ text) (r : ys ≡ xs) (start to end : ℕ) (z : start ≡ 0) (e : end ≡ to + span blank (drop to ys)) (o : Result Point TextFault) (n : Node) (w : Ends o (Ok n)) (l : Leads xs start before to o) where
+module _ (text xs ys : List ℕ) (q : xs ≡ text) (r : ys ≡ xs) (start to end : ℕ) (z : start ≡ 0) (e : end ≡ to + span blank (drop to ys)) (o : Result Point TextFault) (n : TreeValue) (w : Ends o (Ok n)) (l : Leads xs start before to o) where
   end_is : end ≡ to + span blank (drop to text)
   end_is = e ∙ ap (λ l. to + span blank (drop to l)) (r ∙ q)
 
@@ -125,7 +125,7 @@ module _ (text xs ys : List ℕ) (q : xs ≡ text) (r : ys ≡ xs) (start to end
   text_read l = read_is ∙ all_read text to (tree_of n) end end_is l
 
 -- A text that is cut as too long.
-pub cut_answers : (o : Result Tree TextFault) (r : Result Node TextFault) → Answers o r → Answers (too_long o) (Err (cut r))
+pub cut_answers : (o : Result Tree TextFault) (r : Result TreeValue TextFault) → Answers o r → Answers (too_long o) (Err (cut r))
 cut_answers o (Ok n) e = ap too_long e
 cut_answers o (Err (Limit at)) e = ap too_long e
 cut_answers o (Err (Broken at)) e = go (ltb at 65536) (ap too_long e)
@@ -135,10 +135,10 @@ cut_answers o (Err (Broken at)) e = go (ltb at 65536) (ap too_long e)
     go false h = h
 cut_answers o (Err (NoMemory w)) e = tt
 
-pub short_answers : (text : List ℕ) (r : Result Node TextFault) → length text ≤ 65535 → Answers (read text) r → Answers (reading text) r
+pub short_answers : (text : List ℕ) (r : Result TreeValue TextFault) → length text ≤ 65535 → Answers (read text) r → Answers (reading text) r
 short_answers text r l h = subst (λ o. Answers o r) (sym (cond-true (leb (length text) 65535) (read text) (too_long (read (take 65536 text))) (le-leb (length text) 65535 l))) h
 
-pub long_answers : (text part : List ℕ) (r : Result Node TextFault) → 65535 < length text → part ≡ take 65536 text → Answers (read part) r → Answers (reading text) (Err (cut r))
+pub long_answers : (text part : List ℕ) (r : Result TreeValue TextFault) → 65535 < length text → part ≡ take 65536 text → Answers (read part) r → Answers (reading text) (Err (cut r))
 long_answers text part r l q h =
     subst (λ o. Answers o (Err (cut r))) (sym (cond-false (leb (length text) 65535) (read text) (too_long (read (take 65536 text))) (lt-leb (length text) 65535 l)))
     (cut_answers (read (take 65536 text)) r (subst (λ p. Answers (read p) r) q h))

@@ -6,7 +6,7 @@ use Rattle.text.specs.Reading.{reading}
 use Rattle.text.specs.Trees.{Tree, quoted, integer, bracket, Trees, none, more}
 use Rattle.text.specs.declared.fault.TextFault.{TextFault}
 use Rattle.text.specs.declared.fault.TextFault.TheVariants.{Limit, Broken, NoMemory}
-use Rattle.text.specs.declared.node.Node.{Node}
+use Rattle.text.specs.declared.tree.Tree.{Tree as TreeValue}
 use Rattle.text.specs.Nodes.{tree_of}
 use Rattle.text.specs.declared.part.Part.{Part}
 
@@ -106,26 +106,26 @@ abbrev pub Decided : List ℕ → Type 0
 Decided text = (o : Result Tree TextFault) → Obeys text o → o ≡ reading text
 
 -- An answer obeys the law, want of memory aside.
-abbrev pub Lawful : List ℕ → Result Node TextFault → Type 0
+abbrev pub Lawful : List ℕ → Result TreeValue TextFault → Type 0
 Lawful text (Ok node) = Obeys text (Ok (tree_of node))
 Lawful text (Err (Broken p)) = Obeys text (Err (Broken p))
 Lawful text (Err (Limit p)) = Obeys text (Err (Limit p))
 Lawful text (Err (NoMemory w)) = Unit {0}
 
 -- A text that spells a tree is answered with its root, unless a node or the length passes a limit; it is never broken.
-abbrev pub Known : List ℕ → Tree → Result Node TextFault → Type 0
+abbrev pub Known : List ℕ → Tree → Result TreeValue TextFault → Type 0
 Known text t (Ok node) = tree_of node ≡ t
 Known text t (Err (Broken p)) = ⊥
 Known text t (Err (Limit p)) = Passes p t ⊎ ((p ≡ 65535) × (65535 < length text))
 Known text t (Err (NoMemory w)) = Unit {0}
 
 -- Nothing within the limits is refused.
-abbrev pub Accepted : Tree → Result Node TextFault → Type 0
+abbrev pub Accepted : Tree → Result TreeValue TextFault → Type 0
 Accepted t (Ok node) = tree_of node ≡ t
 Accepted t (Err (Broken p)) = ⊥
 Accepted t (Err (Limit p)) = ⊥
 Accepted t (Err (NoMemory w)) = Unit {0}
 
-pub record Accepts (text : List ℕ) (r : Result Node TextFault) : Type 0 where
+pub record Accepts (text : List ℕ) (r : Result TreeValue TextFault) : Type 0 where
   pub spelled : (t : Tree) → Text text t → Known text t r
   pub within : (t : Tree) → Text text t → Fits (nodes 1 t) → length text ≤ 65535 → Accepted t r

@@ -1,21 +1,29 @@
--- The tree that a node is the root of.
+-- What a tree of nodes is: the tree of its definition.
 use Rattle.std.specs.Prelude.{List, [], ◌∷◌, map}
 use Rattle.text.specs.Trees.{Tree, quoted, integer, bracket, Trees, none, more}
-use Rattle.text.specs.declared.node.Node.{Node, fold-Node}
-use Rattle.text.specs.declared.node.Node.TheOpen.{Node-F}
+use Rattle.text.specs.declared.node.Node.{Node}
+use Rattle.text.specs.declared.node.Node.TheVariants as nodes
+use Rattle.text.specs.declared.tree.Tree.{Tree as TreeValue, fold-Tree}
+use Rattle.text.specs.declared.tree.Tree.TheOpen.{Tree-F}
 
 abbrev pub trees : List Tree → Trees
 trees [] = none
 trees (t ∷ ts) = more t (trees ts)
 
--- one level, with the tree of each node in it
-abbrev pub tree_step : Node-F Tree → Tree
-tree_step (Node-F.Quoted at p) = quoted at p
-tree_step (Node-F.Integer at n) = integer at n
-tree_step (Node-F.Bracket at s ns) = bracket at s (trees ns.items)
+-- one level, with what each tree in it is
+abbrev pub tree_step : Tree-F Tree → Tree
+tree_step (Tree-F.Quoted at p) = quoted at p
+tree_step (Tree-F.Integer at n) = integer at n
+tree_step (Tree-F.Bracket at s ns) = bracket at s (trees ns.items)
 
-abbrev pub tree_of : Node → Tree
-tree_of = fold-Node Tree tree_step
+abbrev pub tree_of : TreeValue → Tree
+tree_of = fold-Tree Tree tree_step
 
-abbrev pub trees_of : List Node → Trees
+abbrev pub trees_of : List TreeValue → Trees
 trees_of ns = trees (map tree_of ns)
+
+-- the tree whose first node this is
+abbrev pub shown : Node → Tree
+shown (nodes.Quoted at p) = quoted at p
+shown (nodes.Integer at n) = integer at n
+shown (nodes.Bracket at s ts) = bracket at s (trees_of ts.now)

@@ -4,7 +4,7 @@ use Rattle.text.specs.Trees.{Tree, sizes}
 use Rattle.text.specs.Machine.{Frame, before, between, run}
 use Rattle.text.specs.declared.fault.TextFault.{TextFault}
 use Rattle.text.specs.declared.fault.TextFault.TheVariants.{Limit, Broken, NoMemory}
-use Rattle.text.specs.declared.node.Node.{Node}
+use Rattle.text.specs.declared.tree.Tree.{Tree as TreeValue}
 use Rattle.text.specs.Nodes.{tree_of}
 
 -- How many nodes have begun, with these brackets open.
@@ -32,14 +32,14 @@ abbrev pub reading : List ℕ → Result Tree TextFault
 reading text = cond (nat_le (length text) 65535) (read text) (too_long (read (take 65536 text)))
 
 -- The answer is this one, want of memory aside: the tree's root, or the fault.
-abbrev pub Answers : Result Tree TextFault → Result Node TextFault → Type 0
+abbrev pub Answers : Result Tree TextFault → Result TreeValue TextFault → Type 0
 Answers o (Ok node) = o ≡ Ok (tree_of node)
 Answers o (Err (Limit at)) = o ≡ Err (Limit at)
 Answers o (Err (Broken at)) = o ≡ Err (Broken at)
 Answers o (Err (NoMemory w)) = Unit {0}
 
 -- The fault of a text that was cut to its first 65,536 bytes.
-abbrev pub cut : Result Node TextFault → TextFault
+abbrev pub cut : Result TreeValue TextFault → TextFault
 cut (Ok node) = Limit 65535
 cut (Err (Limit at)) = Limit at
 cut (Err (Broken at)) = cond (nat_lt at 65536) (Broken at) (Limit 65535)

@@ -7,7 +7,7 @@ use Rattle.text.specs.Trees.{quoted, integer, none}
 use Rattle.text.specs.declared.builder.Open.{Open}
 use Rattle.text.specs.declared.fault.TextFault.{TextFault}
 use Rattle.text.specs.declared.fault.TextFault.TheVariants.{Limit, Broken, NoMemory}
-use Rattle.text.specs.declared.node.Node.{Node}
+use Rattle.text.specs.declared.tree.Tree.{Tree as TreeValue}
 use Rattle.text.specs.declared.token.Token.{Token}
 use Rattle.text.specs.declared.token.Token.TheVariants.{Quoted as QuotedToken, Integer as IntegerToken, Open as OpenToken, Close as CloseToken}
 
@@ -39,7 +39,7 @@ Room begun (OpenToken at s) = begun < 4096
 Room begun (CloseToken at) = Unit {0}
 
 -- Where a builder's step leads, want of memory aside: the text's term is whole, or reading goes on in the open brackets.
-abbrev pub Turns : Result Point TextFault → Result (Option Node) TextFault → List Open → ℕ → Type 0
+abbrev pub Turns : Result Point TextFault → Result (Option TreeValue) TextFault → List Open → ℕ → Type 0
 Turns q (Ok (Some n)) os begun = q ≡ Ok (after (tree_of n))
 Turns q (Ok None) os begun = (q ≡ Ok (level (frames os))) × (begun ≡ count (frames os))
 Turns q (Err (Limit at)) os begun = q ≡ Err (Limit at)
@@ -47,7 +47,7 @@ Turns q (Err (Broken at)) os begun = q ≡ Err (Broken at)
 Turns q (Err (NoMemory w)) os begun = Unit {0}
 
 -- The same, of all the steps to the term's end.
-abbrev pub Ends : Result Point TextFault → Result Node TextFault → Type 0
+abbrev pub Ends : Result Point TextFault → Result TreeValue TextFault → Type 0
 Ends q (Ok n) = q ≡ Ok (after (tree_of n))
 Ends q (Err (Limit at)) = q ≡ Err (Limit at)
 Ends q (Err (Broken at)) = q ≡ Err (Broken at)

@@ -8,9 +8,9 @@ ghost use Rattle.text.specs.Trees.{none, size};
 ghost use Rattle.text.specs.declared.token.Token.TheVariants.{Close as CloseToken};
 
 use crate::fault::TextFault;
-use crate::node::Node;
 use crate::part::Part;
 use crate::token::Token;
+use crate::tree::Tree;
 use base::{NoMemory, push, with_room};
 use std::alloc::Global;
 
@@ -24,7 +24,7 @@ const MOST_LEVELS: usize = 32;
 pub(crate) struct Open {
     pub at: usize,
     pub symbol: Part,
-    pub parts: Vec<Node>,
+    pub parts: Vec<Tree>,
 }
 
 // That `begun` counts the nodes of the brackets is a clause and no invariant: it is false where memory fails after a bracket was
@@ -36,7 +36,7 @@ pub(crate) struct Builder {
     pub brackets: Vec<Open>,
     // Lists of brackets that were closed, for brackets to come. Parts are gathered in one of these, and move into a list of just
     // their number when the bracket closes.
-    pub spare: Vec<Vec<Node>>,
+    pub spare: Vec<Vec<Tree>>,
     // how many nodes have begun
     pub begun: usize,
 }
@@ -63,14 +63,14 @@ impl Builder {
 
     // What a token does: the whole term, if it ends here.
     #[tactic(auto, unfolding(crate::specs::Trees::size))]
-    pub(crate) fn take(&mut self, token: Token) -> Result<Option<Node>, TextFault>
+    pub(crate) fn take(&mut self, token: Token) -> Result<Option<Tree>, TextFault>
         requires counted { self.old.begun ≡ count (frames self.old.brackets.items) }
         requires room { Room self.old.begun token }
         ensures { Turns (turn (frames self.old.brackets.items) token) result self.new.brackets.items self.new.begun }
     {
         match token {
-            Token::Quoted { at, inside } => self.add(Node::Quoted { at, inside }),
-            Token::Integer { at, value } => self.add(Node::Integer { at, value }),
+            Token::Quoted { at, inside } => self.add(Tree::Quoted { at, inside }),
+            Token::Integer { at, value } => self.add(Tree::Integer { at, value }),
             Token::Open { at, symbol } => {
                 self.enter(at, symbol)?;
                 Ok(None)
@@ -79,8 +79,8 @@ impl Builder {
         }
     }
 
-    // A node without parts.
-    fn add(&mut self, node: Node) -> Result<Option<Node>, TextFault>
+    // A tree without parts.
+    fn add(&mut self, node: Tree) -> Result<Option<Tree>, TextFault>
         requires counted { self.old.begun ≡ count (frames self.old.brackets.items) }
         requires room { self.old.begun < 4096 }
         requires leaf { size (tree_of node) ≡ 1 }
@@ -103,8 +103,8 @@ impl Builder {
         push(&mut self.brackets, Open { at, symbol, parts })
     }
 
-    // A list without nodes, to gather some in. Spare lists are empty already; clearing one says so without an invariant.
-    fn empty_list(&mut self) -> Vec<Node>
+    // A list without trees, to gather some in. Spare lists are empty already; clearing one says so without an invariant.
+    fn empty_list(&mut self) -> Vec<Tree>
         ensures empty { result.items ≡ [] }
         ensures brackets { self.new.brackets ≡ self.old.brackets }
         ensures begun { self.new.begun ≡ self.old.begun }
@@ -118,8 +118,8 @@ impl Builder {
         }
     }
 
-    // The nodes that were gathered in a list, in one of just their number.
-    fn exact_list(&mut self, mut gathered: Vec<Node>) -> Result<Vec<Node>, NoMemory>
+    // The trees that were gathered in a list, in one of just their number.
+    fn exact_list(&mut self, mut gathered: Vec<Tree>) -> Result<Vec<Tree>, NoMemory>
         ensures nodes { IfOk result (λ v. v.items ≡ gathered.items) }
         ensures brackets { self.new.brackets ≡ self.old.brackets }
         ensures begun { self.new.begun ≡ self.old.begun }
@@ -133,7 +133,7 @@ impl Builder {
 
     // The end of the innermost bracket, by a byte at `end`.
     #[tactic(auto, using(crate::proofs::Building::frames_push), unfolding(crate::specs::Reading::count, crate::specs::Trees::size))]
-    fn close(&mut self, end: usize) -> Result<Option<Node>, TextFault>
+    fn close(&mut self, end: usize) -> Result<Option<Tree>, TextFault>
         requires { self.old.begun ≡ count (frames self.old.brackets.items) }
         ensures { Turns (turn (frames self.old.brackets.items) (CloseToken end)) result self.new.brackets.items self.new.begun }
     {
@@ -141,11 +141,11 @@ impl Builder {
             return Err(TextFault::Broken { at: end });
         };
         let parts = self.exact_list(parts)?;
-        self.put(Node::Bracket { at, symbol, parts })
+        self.put(Tree::Bracket { at, symbol, parts })
     }
 
-    // A finished node goes into the innermost bracket; if none is open, it is the whole term.
-    fn put(&mut self, node: Node) -> Result<Option<Node>, TextFault>
+    // A finished tree goes into the innermost bracket; if none is open, it is the whole term.
+    fn put(&mut self, node: Tree) -> Result<Option<Tree>, TextFault>
         requires { self.old.begun ≡ count (frames self.old.brackets.items) + size (tree_of node) }
         ensures { Turns (Ok (put (tree_of node) (frames self.old.brackets.items))) result self.new.brackets.items self.new.begun }
     {

@@ -9,6 +9,7 @@ pub mod part;
 pub mod reader;
 pub mod reading;
 pub mod token;
+pub mod tree;
 
 pub use crate::reading::read_text;
 

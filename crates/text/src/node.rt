@@ -1,9 +1,11 @@
-// The nodes of a text's tree, each with the place of its first byte.
+// One node of a tree.
 use crate::part::Part;
+use crate::tree::Tree;
 
-#[derive(Clone, Drop)]
-pub enum Node {
-    // the place of the first quote, and the bytes between the quotes
+/// One node of a tree, with the place of its first byte and the trees in it. It borrows the tree.
+#[derive(Clone, Copy)]
+pub enum Node<'a> {
+    /// the place of the first quote, and the bytes between the quotes
     Quoted {
         at: usize,
         inside: Part,
@@ -12,10 +14,10 @@ pub enum Node {
         at: usize,
         value: u32,
     },
-    // an opening bracket with its symbol, and the nodes in it
+    /// an opening bracket with its symbol, and the trees in it
     Bracket {
         at: usize,
         symbol: Part,
-        parts: Vec<Node>,
+        parts: &'a [Tree],
     },
 }

@@ -7,16 +7,16 @@ ghost use Rattle.text.specs.Standing.{Ends, Leads};
 
 use crate::builder::Builder;
 use crate::fault::TextFault;
-use crate::node::Node;
 use crate::reader::Reader;
+use crate::tree::Tree;
 use std::alloc::Global;
 
 // how many bytes a text has at most
 const MOST_BYTES: usize = 65535;
 
-// The root of the one term that a text is. A text of more than 65,535 bytes passes a limit with the byte after these, if
+// The tree of the one term that a text is. A text of more than 65,535 bytes passes a limit with the byte after these, if
 // nothing is wrong with it up to there.
-pub fn read_text(heap: Global, text: &[u8]) -> Result<Node, TextFault>
+pub fn read_text(heap: Global, text: &[u8]) -> Result<Tree, TextFault>
     ensures answers { Answers (reading text.now) result }
     ensures lawful { Lawful text.now result }
     ensures decided { Decided text.now }
@@ -29,7 +29,7 @@ pub fn read_text(heap: Global, text: &[u8]) -> Result<Node, TextFault>
 }
 
 // The fault of a text that is too long, from what its first 65,536 bytes gave.
-fn fault_of_cut(read: Result<Node, TextFault>) -> TextFault
+fn fault_of_cut(read: Result<Tree, TextFault>) -> TextFault
     ensures { result ≡ cut read }
 {
     match read {
@@ -40,7 +40,7 @@ fn fault_of_cut(read: Result<Node, TextFault>) -> TextFault
 }
 
 // The same, for a text of any length.
-fn read_all(heap: Global, text: &[u8]) -> Result<Node, TextFault>
+fn read_all(heap: Global, text: &[u8]) -> Result<Tree, TextFault>
     ensures { Answers (run full 0 (between before) text.now) result }
 {
     let mut reader = Reader::new(text);
@@ -53,7 +53,7 @@ fn read_all(heap: Global, text: &[u8]) -> Result<Node, TextFault>
 }
 
 // One term, from its first token to its last.
-fn read_term(heap: Global, reader: &mut Reader) -> Result<Node, TextFault>
+fn read_term(heap: Global, reader: &mut Reader) -> Result<Tree, TextFault>
     ensures same { reader.new.text ≡ reader.old.text }
     ensures leads { (q : Result Point TextFault) × Leads reader.old.text.now reader.old.at before reader.new.at q × Ends q result }
 {

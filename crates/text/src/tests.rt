@@ -6,6 +6,7 @@ use crate::part::Part;
 use crate::read_text;
 use crate::reader::Reader;
 use crate::token::Token;
+use crate::tree::Tree;
 use std::alloc::{AllocError, Global};
 use std::process::Abort;
 use std::test::Fail;
@@ -17,9 +18,9 @@ fn outcome(heap: Global, text: &[u8]) -> Result<usize, TextFault> {
 }
 
 // How many nodes a tree has.
-fn nodes(root: &Node) -> usize {
+fn nodes(root: &Tree) -> usize {
     let mut count: usize = 1;
-    if let Node::Bracket { parts, .. } = root {
+    if let Tree::Bracket { parts, .. } = root {
         for part in parts {
             count = count.saturating_add(nodes(part));
         }
@@ -190,37 +191,65 @@ fn long_texts(rt: HostRuntime) -> Result<(), Fail> {
     lengthy(&rt, heap, 65600, b"\"", Err(Limit { at: 65535 }))
 }
 
-// Where a node stands, the number after its last part if the nodes are numbered from the first on, and the place and length of
-// its symbol or quoted text, or its value.
-fn shown(node: &Node, number: usize) -> (usize, usize, usize, usize) {
-    let end = nodes(node).saturating_add(number);
-    match node {
-        Node::Quoted { at, inside } => (*at, end, inside.at, inside.len),
-        Node::Integer { at, value } => (*at, end, *value as usize, 0),
-        Node::Bracket { at, symbol, .. } => (*at, end, symbol.at, symbol.len),
+// Where the first node of a tree stands, the number after its last part if the nodes are numbered from the first on, and the
+// place and length of its symbol or quoted text, or its value.
+fn shown(tree: &Tree, number: usize) -> (usize, usize, usize, usize) {
+    let end = nodes(tree).saturating_add(number);
+    match tree.node() {
+        Node::Quoted { at, inside } => (at, end, inside.at, inside.len),
+        Node::Integer { at, value } => (at, end, value as usize, 0),
+        Node::Bracket { at, symbol, .. } => (at, end, symbol.at, symbol.len),
     }
 }
 
 // The parts of a bracket.
-fn parts_of(node: &Node) -> &[Node] {
-    match node {
-        Node::Bracket { parts, .. } => parts.as_slice(),
+fn parts_of(tree: &Tree) -> &[Tree] {
+    match tree.node() {
+        Node::Bracket { parts, .. } => parts,
         _ => &[],
     }
 }
 
-#[test]
-fn rows(rt: HostRuntime) -> Result<(), Fail> {
-    let root = read_text(rt.alloc(), b" ( ab (c 7)\"de\" )")?;
-    assert!(rt; nodes(&root) == 4);
-    assert_eq!(rt; shown(&root, 0), (1, 4, 3, 2));
-    let parts = parts_of(&root);
+// A text with each kind of node, and its nodes.
+const EACH_KIND: &[u8] = b" ( ab (c 7)\"de\" )";
+
+fn has_each_kind(rt: &impl Abort, root: &Tree) {
+    assert!(rt; nodes(root) == 4);
+    assert_eq!(rt; shown(root, 0), (1, 4, 3, 2));
+    let parts = parts_of(root);
     assert!(rt; parts.len() == 2);
     assert_eq!(rt; shown(&parts[0], 1), (6, 3, 7, 1));
     let inner = parts_of(&parts[0]);
     assert!(rt; inner.len() == 1);
     assert_eq!(rt; shown(&inner[0], 2), (9, 3, 7, 0));
     assert_eq!(rt; shown(&parts[1], 3), (11, 4, 12, 2));
+}
+
+#[test]
+fn rows(rt: HostRuntime) -> Result<(), Fail> {
+    let root = read_text(rt.alloc(), EACH_KIND)?;
+    has_each_kind(&rt, &root);
+    Ok(())
+}
+
+// A node can be copied, and the copy shows the same.
+#[test]
+fn copied(rt: HostRuntime) -> Result<(), Fail> {
+    let root = read_text(rt.alloc(), EACH_KIND)?;
+    let node = root.node();
+    let copy = node;
+    assert!(rt; matches!(node, Node::Bracket { at: 1, parts, .. } if parts.len() == 2));
+    assert!(rt; matches!(copy, Node::Bracket { at: 1, parts, .. } if parts.len() == 2));
+    Ok(())
+}
+
+// A clone has the same nodes, also where the first tree is gone.
+#[test]
+fn cloned(rt: HostRuntime) -> Result<(), Fail> {
+    let root = read_text(rt.alloc(), EACH_KIND)?;
+    let clone = root.clone()?;
+    drop(root);
+    has_each_kind(&rt, &clone);
     Ok(())
 }
 

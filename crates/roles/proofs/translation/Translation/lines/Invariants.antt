@@ -7,4 +7,4 @@ use Rattle.roles.proofs.translation.Translation.lines.Given as goal
 abbrev pub invariant-loop-index : goal.invariant-loop-index
 invariant-loop-index l =
     AllFit l.self.declarations.terms (vec_items l.self.roles)
-    × LeftLines l.input.limits l.input.text.now (map line_of l.lines) l.fn.self l.self (labels (take l.index l.lines)) (map line_of (drop l.index l.lines))
+    × LeftLines l.input.limits l.input.text.now (map (line_of l.input.spec.now) l.lines) l.fn.self l.self (labels (take l.index l.lines)) (map (line_of l.input.spec.now) (drop l.index l.lines))

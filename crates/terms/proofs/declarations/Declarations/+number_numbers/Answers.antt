@@ -108,7 +108,7 @@ numbers-loop-term-init t c =
     rw c.new-parts.ensures (record {
       below = tt;
       grows = record { longer = omega arith; kept = λ j h. refl };
-      same = record { names = refl; functions = refl; starts = refl; rights = refl };
+      same = record { names = refl; functions = refl; parameters = refl; starts = refl; rights = refl };
       begins = take-length (vec_items d.terms.rows);
       few = few;
       onward = onward_none c.args.text.now (vec_items d.names) c.args.most d.terms (terms_of ts) few;
